@@ -1,0 +1,5 @@
+pub mod Logic
+pub mod Ranges
+pub mod Lists
+pub mod Sets
+pub mod Rules

@@ -1,0 +1,13 @@
+pub mod Means
+pub mod Live
+pub mod Logged
+pub mod Chains
+pub mod Storage
+pub mod Places
+pub mod Known
+pub mod Start
+pub mod Access
+pub mod Prepare
+pub mod Commit
+pub mod Abort
+pub mod Kept
