@@ -131,6 +131,15 @@ module _ (t : Tables) (c : Call) where
   pub refused-holds : (r : Refusal) → Refused r → T (fact r t c)
   refused-holds r f = first-passes (λ q. fact q t c) (order (c .kind)) r f
 
+  -- the reason of a refusal, and that there is none
+  pub refused-why : (r : Refusal) → Refused r → refusal t c ≡ some r
+  unfolding refusal
+  refused-why r f = first-is (λ q. fact q t c) (order (c .kind)) r f
+
+  pub done-why : Allowed → refusal t c ≡ none
+  unfolding refusal
+  done-why f = first-none (λ q. fact q t c) (order (c .kind)) f
+
   refused-call : (r : Refusal) → Refused r → call t c ≡ outcome (some r) t c
   unfolding call refusal
   refused-call r f = rw (first-is (λ q. fact q t c) (order (c .kind)) r f)

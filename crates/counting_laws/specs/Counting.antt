@@ -148,12 +148,12 @@ count-is-ones (suc w) s h =
     top (suc (suc n)) k = omega arith
 
 -- 0 is a member of the odd numbers
-has-first : (s : ℕ) → has s 0 ≡ eqb (s % 2) 1
+pub has-first : (s : ℕ) → has s 0 ≡ eqb (s % 2) 1
 unfolding has
 has-first s = ap (λ (n : ℕ). eqb (n % 2) 1) (div-one s)
 
 -- the other members are those of the half, one higher
-has-half : (s i : ℕ) → has (s / 2) i ≡ has s (suc i)
+pub has-half : (s i : ℕ) → has (s / 2) i ≡ has s (suc i)
 unfolding has
 has-half s i = ap (λ (n : ℕ). eqb (n % 2) 1) (shr-shr s 1 i ∙ ap (λ (k : ℕ). s / 2 ^ k) (one-add i))
 

@@ -11,3 +11,5 @@ pub mod Frames
 pub mod Session
 pub mod Runs
 pub mod Cases
+pub mod History
+pub mod Truth

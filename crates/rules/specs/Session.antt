@@ -1,11 +1,12 @@
--- What whole calls give: a call on lent words, the fresh call, a line, and a whole text of lines.
+-- What whole calls give: a call on lent words, the fresh call, a line, a whole text of lines, and a run of many lines on
+-- lent words.
 -- Rests on Tables, Answers, Layout and Frames.
 use mathlib.Core.Bool.{Bool, cond}
 use mathlib.Core.List.{List, [], _∷_, _++_}
 use mathlib.Core.Option.{Option, none, some}
-use Prim.Native.Nat.{ℕ}
+use Prim.Native.Nat.{ℕ, _*_, _/_}
 use lib.Dec.{eqb}
-use lib.ListN.{length}
+use lib.ListN.{length, take, drop}
 use Rattle.rules.specs.Tables.{Tables, fresh}
 use Rattle.rules.specs.Answers.{Call, Answer, Outcome, Refusal, unsound, bad-frame, number-of, call}
 use Rattle.rules.specs.Layout.{word-count, pack, unpack, sound-words}
@@ -71,3 +72,37 @@ answer-lines t (l ∷ ls) = write-answer (line t l .answer) ++ answer-lines (lin
 -- the stepping program: what a whole text answers, starting fresh
 unfoldable pub session : List ℕ → List ℕ
 session text = answer-lines fresh (lines text)
+
+-- ---- a text of many lines on lent words, with room for the answers
+
+-- how many bytes an answer line has
+abbrev pub answer-length : ℕ
+answer-length = 19
+
+-- the tables that lines leave
+unfoldable pub tables-after-lines : Tables → List (List ℕ) → Tables
+tables-after-lines t [] = t
+tables-after-lines t (l ∷ ls) = tables-after-lines (line t l .tables) ls
+
+-- the lines of a text that are answered: as many as the room has answer lines
+unfoldable pub answered : List ℕ → ℕ → List (List ℕ)
+answered text room = take (room / answer-length) (lines text)
+
+-- an answer, the words and the answers' room as they are left
+pub record Ran : Type 0 where
+  pub answer : Answer
+  pub words : List ℕ
+  pub room : List ℕ
+
+-- sound words: line after line is answered while the room has 19 bytes left; gives how many were. Unsound words give
+-- 01, and nothing is written
+unfoldable pub run-words : List ℕ → List ℕ → List ℕ → Ran
+run-words ws text room =
+    cond (sound-words ws)
+    (let ls = answered text (length room) in
+    record {
+      answer = record { number = 0x00; value = length ls };
+      words = pack (tables-after-lines (unpack ws) ls);
+      room = answer-lines (unpack ws) ls ++ drop (answer-length * length ls) room;
+    })
+    (record { answer = plainly unsound; words = ws; room = room })

@@ -54,7 +54,7 @@ module _ (t : Tables) (s : Sound t) (f : ℕ) (closed : Closed (t .live) f) wher
   unfolding falls
   falls-at x u m = and-says (is-live (t .live) x) (has f (place-of (t .live) x)) .1 (u, m)
 
-  falls-live : (x : Txn) → T (falls (t .live) f x) → T (is-live (t .live) x) × T (has f (place-of (t .live) x))
+  pub falls-live : (x : Txn) → T (falls (t .live) f x) → T (is-live (t .live) x) × T (has f (place-of (t .live) x))
   unfolding falls
   falls-live x u = and-says (is-live (t .live) x) (has f (place-of (t .live) x)) .0 u
 
@@ -91,7 +91,7 @@ module _ (t : Tables) (s : Sound t) (f : ℕ) (closed : Closed (t .live) f) wher
   pub was-live : (x : Txn) → T (is-live ms x) → T (is-live (t .live) x)
   was-live x u = subst T (live-same ms (t .live) x (stays x (live-at ms x u .somebody) (gone x u))) u
 
-  sets-now : (x : Txn) → Kept x → T (is-live (t .live) x) → sets-of ms x ≡ sets-of (t .live) x
+  pub sets-now : (x : Txn) → Kept x → T (is-live (t .live) x) → sets-of ms x ≡ sets-of (t .live) x
   sets-now x k u =
       let a = live-at (t .live) x u in
       ap (place ms) (stays x (a .somebody) k) ∙ kept-place (place-of (t .live) x) (a .below) (λ m. k (falls-at x u m))
@@ -121,7 +121,7 @@ module _ (t : Tables) (s : Sound t) (f : ℕ) (closed : Closed (t .live) f) wher
       falls-at x u (closed (place-of (t .live) x) (place-of (t .live) y) (live-at (t .live) x u .below) (live-at (t .live) y (w .0) .below) m (w .1))
 
   -- in a chain, only those that stay come before one that stays
-  stay-first : (i : ℕ) → i < object-count → Neighbours (λ e g. T (stays-on g) → T (stays-on e)) (chain (object t (obj i)))
+  pub stay-first : (i : ℕ) → i < object-count → Neighbours (λ e g. T (stays-on g) → T (stays-on e)) (chain (object t (obj i)))
   stay-first i k =
       let ok = s .object-ok i k in
       Neighbours-zip {P = Accounted (t .live) (t .log) i} {Q = LoggedFirst (t .log)} {R = Linked (t .live)}
@@ -139,7 +139,7 @@ module _ (t : Tables) (s : Sound t) (f : ℕ) (closed : Closed (t .live) f) wher
           c
 
   -- a holder that stays has a chain of which all stay: it depends on the latest if that is live
-  all-stay : (i : ℕ) → i < object-count → Held (object t (obj i)) → Kept (object t (obj i) .holder) → All (λ e. T (stays-on e)) (chain (object t (obj i)))
+  pub all-stay : (i : ℕ) → i < object-count → Held (object t (obj i)) → Kept (object t (obj i) .holder) → All (λ e. T (stays-on e)) (chain (object t (obj i)))
   unfolding latest
   all-stay i k h kept =
       let b = object t (obj i) in

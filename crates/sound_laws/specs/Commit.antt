@@ -96,7 +96,7 @@ module _ (t : Tables) (s : Sound t) (x : Txn) (may : MayCommit t x) where
   place-other : (y : Txn) → Other y x → T (is-live (t .live) y) → place-of (t .live) y ≡ p → ⊥
   place-other y d u e = d (sym (live-at (t .live) y u .there) ∙ ap (λ (j : ℕ). place (t .live) j .number .num) e ∙ at .there)
 
-  sets-now : (y : Txn) → Other y x → T (is-live (t .live) y) → sets-of ms y ≡ struck p (sets-of (t .live) y)
+  pub sets-now : (y : Txn) → Other y x → T (is-live (t .live) y) → sets-of ms y ≡ struck p (sets-of (t .live) y)
   sets-now y d u =
       let a = live-at (t .live) y u in
       ap (place ms) (stays y (a .somebody) d) ∙ elsewhere (place-of (t .live) y) (a .below) (place-other y d u)

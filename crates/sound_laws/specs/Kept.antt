@@ -45,7 +45,7 @@ abbrev is : Refusal → Refusal → Bool
 is q r = eqb (number-of q) (number-of r)
 
 -- q stands before r, or r is not there
-abbrev precedes : Refusal → Refusal → List Refusal → Bool
+abbrev pub precedes : Refusal → Refusal → List Refusal → Bool
 precedes q r [] = true
 precedes q r (p ∷ ps) = not (is p r) && (is p q || precedes q r ps)
 
@@ -227,7 +227,7 @@ module _ (t : Tables) (s : Sound t) where
 
   -- ---- the kinds, one by one
 
-  below : (o : ℕ) → (T (not (ltb o object-count)) → ⊥) → o < object-count
+  pub below : (o : ℕ) → (T (not (ltb o object-count)) → ⊥) → o < object-count
   below o f = below-says o object-count .0 (passed (ltb o object-count) f)
 
   done-sound : (k : Kind) (x : Txn) (o : Obj) (v : ℕ) → v < 2 ^ 64 → Allowed t (record { kind = k; who = x; what = o; value = v })

@@ -48,7 +48,7 @@ module _ (t : Tables) (s : Sound t) (p : ℕ) (h : p < place-count) (free : plac
   pub here : place after p ≡ newcomer
   here = set-here (t .live) p newcomer fits
 
-  pub elsewhere : (q : ℕ) → (q ≡ p → ⊥) → place after q ≡ place (t .live) q
+  elsewhere : (q : ℕ) → (q ≡ p → ⊥) → place after q ≡ place (t .live) q
   elsewhere = set-elsewhere (t .live) p newcomer fits
 
   -- a transaction of an old number is where it was
@@ -64,7 +64,7 @@ module _ (t : Tables) (s : Sound t) (p : ℕ) (h : p < place-count) (free : plac
           omega arith
 
   -- and has the sets it had
-  stays-sets : (x : Txn) → T (is-live (t .live) x) → sets-of after x ≡ sets-of (t .live) x
+  pub stays-sets : (x : Txn) → T (is-live (t .live) x) → sets-of after x ≡ sets-of (t .live) x
   stays-sets x u =
       let a = live-at (t .live) x u in
       ap (place after) (stays x (a .somebody) (live-given t s x u .1))

@@ -5,3 +5,4 @@ pub mod Fits
 pub mod Unpacked
 pub mod Sized
 pub mod Words
+pub mod Writes

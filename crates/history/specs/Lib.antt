@@ -1,0 +1,13 @@
+pub mod Log
+pub mod Keeping
+pub mod Accepted
+pub mod Invariant
+pub mod Stored
+pub mod Accessed
+pub mod Started
+pub mod Committed
+pub mod Undone
+pub mod Found
+pub mod Carried
+pub mod Values
+pub mod Hollow

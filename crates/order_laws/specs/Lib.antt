@@ -1,0 +1,4 @@
+pub mod Changes
+pub mod Earlier
+pub mod Waits
+pub mod Order
