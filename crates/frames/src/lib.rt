@@ -1,0 +1,225 @@
+// Frames: a line to a call or to a bad frame, an answer to its line. A call's line is its kind (2 digits), transaction (8),
+// object (2) and value (16), an answer's its number (2) and value (16), each with a line feed. Digits are lower-case
+// hexadecimal, high digits first. specs/Parts.antt says what each function here gives.
+ghost use mathlib.Core.Path.{_≡_};
+ghost use Prim.Native.Nat.{_+_, _^_, _/_, _%_, _≤_, _<_};
+ghost use lib.Dec.{T, eqb};
+ghost use lib.ListN.{length};
+ghost use Rattle.rules.specs.Frames.{fields-of, unused-zero, digit, digits, read-frame};
+ghost use Rattle.frames.specs.Parsed.{parsed-as, with-answer};
+ghost use Rattle.frames.specs.Parts.{digit-values, field, digits-in, named-as, is-kind, kind-numbered, kind-named, packed, call-numbered, asked, over};
+use calls::Answer;
+use calls::Call;
+use calls::Kind;
+use calls::Obj;
+use calls::Txn;
+
+// What a line asks.
+pub enum Parsed {
+    // A call.
+    Asks(Call),
+    // No frame: another length, character, kind, or a nonzero unused field.
+    Bad,
+}
+
+// What a field of a line holds.
+enum Digits {
+    // Digits alone, and the number that they stand for.
+    Number(u64),
+    // Another character.
+    Mixed,
+}
+
+// What a number names among the kinds.
+enum Named {
+    Is(Kind),
+    Nothing,
+}
+
+const LINE_FEED: u8 = 10;
+
+// What the table of digits has for every other character.
+const NO_DIGIT: u8 = 255;
+
+// The fields of a call, each a part of a sum.
+const TRANSACTION: u8 = 1;
+
+const OBJECT: u8 = 2;
+
+const VALUE: u8 = 4;
+
+// The fields that each kind uses, from kind 01 on.
+const USES: [u8; 12] = [
+    0,
+    TRANSACTION + OBJECT,
+    TRANSACTION + OBJECT + VALUE,
+    TRANSACTION + OBJECT,
+    OBJECT,
+    TRANSACTION,
+    TRANSACTION,
+    OBJECT,
+    VALUE,
+    0,
+    TRANSACTION,
+    OBJECT,
+];
+
+// The digit that stands for a number below 16.
+fn digit(number: u8) -> u8
+    requires { ⌜ number < 16 ⌝ }
+    ensures { λ r. ⌜ r ≡ digit number ⌝ }
+{
+    if number < 10 {
+        48 + number
+    } else {
+        87 + number
+    }
+}
+
+// The number that each character stands for as a digit. A line is read with one table, made before its first digit: a
+// constant table would be made anew at each.
+fn digit_values() -> [u8; 256]
+    ensures { λ r. ⌜ r ≡ digit-values ⌝ }
+{
+    let mut values = [NO_DIGIT; 256];
+    for number in 0..16 {
+        values[digit(number) as usize] = number;
+    }
+    values
+}
+
+// The number of the field from a place of the line up to another.
+fn number(values: &[u8; 256], line: &[u8], from: usize, end: usize) -> Digits
+    requires { ⌜ now values ≡ digit-values ⌝ }
+    requires { ⌜ (from ≤ end) × (end ≤ length (now line)) × (end ≤ from + 16) ⌝ }
+    ensures { λ r. ⌜ r ≡ digits-in (field from end (now (line .entry))) ⌝ }
+{
+    let mut number: u64 = 0;
+    for i in from..end {
+        let byte = line[i];
+        let digit = values[byte as usize];
+        if digit == NO_DIGIT {
+            return Digits::Mixed;
+        }
+        number = number * 16 + digit as u64;
+    }
+    Digits::Number(number)
+}
+
+// The kind of a number.
+fn kind(number: u64) -> Named
+    ensures { λ r. ⌜ named-as r ≡ kind-named number ⌝ }
+{
+    match number {
+        1 => Named::Is(Kind::Start),
+        2 => Named::Is(Kind::Read),
+        3 => Named::Is(Kind::Write),
+        4 => Named::Is(Kind::Prepare),
+        5 => Named::Is(Kind::Save),
+        6 => Named::Is(Kind::Commit),
+        7 => Named::Is(Kind::Abort),
+        8 => Named::Is(Kind::Settle),
+        9 => Named::Is(Kind::Crash),
+        10 => Named::Is(Kind::Restart),
+        11 => Named::Is(Kind::Status),
+        12 => Named::Is(Kind::Look),
+        _ => Named::Nothing,
+    }
+}
+
+// The fields that a kind uses, as a sum.
+fn fields(kind: u64) -> u8
+    requires { ⌜ T (is-kind kind) ⌝ }
+    ensures { λ r. ⌜ r ≡ packed (fields-of (kind-numbered kind)) ⌝ }
+{
+    USES[(kind - 1) as usize]
+}
+
+// Tells whether a sum of fields has a field.
+fn has(fields: u8, field: u8) -> bool
+    requires { ⌜ 0 < field ⌝ }
+    ensures { λ r. ⌜ r ≡ eqb (fields / field % 2) 1 ⌝ }
+{
+    fields / field % 2 == 1
+}
+
+// Tells whether every field that a kind does not use is zero.
+fn unused_zero(kind: u64, who: u64, what: u64, value: u64) -> bool
+    requires { ⌜ T (is-kind kind) ⌝ }
+    ensures { λ r. ⌜ r ≡ unused-zero (call-numbered kind who what value) ⌝ }
+{
+    let uses = fields(kind);
+    let who_fits = has(uses, TRANSACTION) | (who == 0);
+    let what_fits = has(uses, OBJECT) | (what == 0);
+    let value_fits = has(uses, VALUE) | (value == 0);
+    who_fits & what_fits & value_fits
+}
+
+// What four fields ask.
+fn ask(number: u64, who: u64, what: u64, value: u64) -> Parsed
+    requires { ⌜ (who < 2 ^ 32) × (what < 2 ^ 8) ⌝ }
+    ensures { λ r. ⌜ parsed-as r ≡ asked number who what value ⌝ }
+{
+    let Named::Is(kind) = kind(number) else {
+        return Parsed::Bad;
+    };
+    if !unused_zero(number, who, what, value) {
+        return Parsed::Bad;
+    }
+    Parsed::Asks(Call {
+        kind,
+        who: Txn { num: who as u32 },
+        what: Obj { num: what as u8 },
+        value,
+    })
+}
+
+// A line, its line feed included, as the rules read it.
+pub fn read(line: &[u8]) -> Parsed
+    ensures { λ r. ⌜ parsed-as r ≡ read-frame (now (line .entry)) ⌝ }
+{
+    if line.len() != 29 {
+        return Parsed::Bad;
+    }
+    if line[28] != LINE_FEED {
+        return Parsed::Bad;
+    }
+    let values = digit_values();
+    let Digits::Number(kind) = number(&values, line, 0, 2) else {
+        return Parsed::Bad;
+    };
+    let Digits::Number(who) = number(&values, line, 2, 10) else {
+        return Parsed::Bad;
+    };
+    let Digits::Number(what) = number(&values, line, 10, 12) else {
+        return Parsed::Bad;
+    };
+    let Digits::Number(value) = number(&values, line, 12, 28) else {
+        return Parsed::Bad;
+    };
+    ask(kind, who, what, value)
+}
+
+// Writes a number as so many digits at a place of the room. The last digit comes first: it is what a division leaves.
+fn put(room: &mut [u8], at: usize, count: usize, number: u64)
+    requires { ⌜ at + count ≤ length (now room) ⌝ }
+    ensures { λ r. ⌜ now (room .exit) ≡ over (now (room .entry)) at (digits count number) ⌝ }
+{
+    let mut rest = number;
+    let mut left = count;
+    while 0 < left {
+        left -= 1;
+        room[at + left] = digit((rest % 16) as u8);
+        rest /= 16;
+    }
+}
+
+// Writes the 19 bytes of an answer's line at a place of the room, from its end to its beginning.
+pub fn write(room: &mut [u8], at: usize, answer: Answer)
+    requires { ⌜ at + 19 ≤ length (now room) ⌝ }
+    ensures { λ r. ⌜ now (room .exit) ≡ with-answer (now (room .entry)) at answer ⌝ }
+{
+    room[at + 18] = LINE_FEED;
+    put(room, at + 2, 16, answer.value);
+    put(room, at, 2, answer.number);
+}

@@ -1,0 +1,5 @@
+pub mod Chains
+pub mod Fitting
+pub mod Growing
+pub mod Scanning
+pub mod Settling

@@ -1,0 +1,3 @@
+pub mod Entries
+pub mod Rounds
+pub mod Scans

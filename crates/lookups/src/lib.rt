@@ -1,0 +1,133 @@
+// Looking into the tables that sound words hold: who is live and where, who is logged and under which number, which places
+// are free, an object's latest version, who falls with a transaction.
+ghost use mathlib.Core.Path.{_≡_};
+ghost use mathlib.Core.Bool.{cond};
+ghost use Prim.Native.Nat.{_+_, _^_, _≤_, _<_};
+ghost use lib.Dec.{T};
+ghost use lib.ListN.{length};
+ghost use Rattle.rules.specs.Sets.{width};
+ghost use Rattle.rules.specs.Tables.{txn, obj, place-count, object-count, object, place-of as place-in, log-number as number-in, latest as latest-of};
+ghost use Rattle.rules.specs.Falls.{and-dependents as one-round, fallen as fallen-in};
+ghost use Rattle.rules.specs.Steps.{free-places as free-in};
+ghost use Rattle.rules.specs.Layout.{sound-words, unpack};
+ghost use Rattle.lookups.specs.Entries.{entry-of, entry-words};
+ghost use Rattle.lookups.specs.Rounds.{joins-in};
+ghost use Rattle.lookups.specs.Scans.{first-at};
+
+// A version: its value and the transaction that wrote it.
+pub struct Entry {
+    pub value: u64,
+    pub writer: u64,
+}
+
+// The first of the `count` words from `from` on that is x, counted from 0, or `count` where none is.
+fn scan(words: &[u64], from: usize, count: usize, x: u64) -> usize
+    requires { ⌜ from + count ≤ length (now words) ⌝ }
+    ensures { λ r. ⌜ r ≡ first-at (now (words .entry)) from count x ⌝ }
+{
+    for i in 0..count {
+        if words[from + i] == x {
+            return i;
+        }
+    }
+    count
+}
+
+// The place of a live transaction, or 32 where it has none.
+pub fn place_of(words: &[u64], x: u64) -> usize
+    requires { ⌜ T (sound-words (now words)) ⌝ }
+    ensures { λ r. ⌜ r ≡ place-in (unpack (now (words .entry)) .live) (txn x) ⌝ }
+{
+    scan(words, 514, 32, x)
+}
+
+// The log number of a logged transaction, or one past the last record where it is not logged.
+pub fn log_number(words: &[u64], x: u64) -> u64
+    requires { ⌜ T (sound-words (now words)) ⌝ }
+    ensures { λ r. ⌜ r ≡ number-in (unpack (now (words .entry)) .log) (txn x) .num ⌝ }
+{
+    let count = words[1] as usize;
+    1 + scan(words, 2, count, x) as u64
+}
+
+// The set, and place p above all its members where p passes.
+fn and_place(s: u64, p: u64, passes: bool) -> u64
+    requires { ⌜ (s < 2 ^ p) × (p < width) ⌝ }
+    ensures { λ r. ⌜ r ≡ s + cond passes (2 ^ p) 0 ⌝ }
+{
+    if passes { s + (1 << p) } else { s }
+}
+
+// The set of free places.
+pub fn free_places(words: &[u64]) -> u32
+    requires { ⌜ T (sound-words (now words)) ⌝ }
+    ensures { λ r. ⌜ r ≡ free-in (unpack (now (words .entry))) ⌝ }
+{
+    let mut free: u64 = 0;
+    for p in 0..32u64 {
+        free = and_place(free, p, words[514 + p as usize] == 0);
+    }
+    free as u32
+}
+
+// The version whose value and transaction stand at the given places.
+fn entry_at(words: &[u64], value: usize, writer: usize) -> Entry
+    requires { ⌜ (value < length (now words)) × (writer < length (now words)) ⌝ }
+    ensures { λ r. ⌜ entry-of r ≡ entry-words (now (words .entry)) value writer ⌝ }
+{
+    Entry {
+        value: words[value],
+        writer: words[writer],
+    }
+}
+
+// An object's latest version: the chain's last entry, queued or saved, else the stable version.
+pub fn latest(words: &[u64], o: usize) -> Entry
+    requires { ⌜ T (sound-words (now words)) × (o < object-count) ⌝ }
+    ensures { λ r. ⌜ entry-of r ≡ latest-of (object (unpack (now (words .entry))) (obj o)) ⌝ }
+{
+    let count = (words[834 + o] + words[866 + o]) as usize;
+    if count == 0 {
+        entry_at(words, 674 + o, 706 + o)
+    } else {
+        let last = 8 * o + (count - 1);
+        entry_at(words, 898 + last, 1154 + last)
+    }
+}
+
+// Whether place p is one of the set, or its transaction depends on one of it.
+fn joins(words: &[u64], s: u64, p: u64) -> bool
+    requires { ⌜ T (sound-words (now words)) × (s < 2 ^ width) × (p < place-count) ⌝ }
+    ensures { λ r. ⌜ r ≡ joins-in (unpack (now (words .entry)) .live) s p ⌝ }
+{
+    sets::has(s, p) || sets::meets(words[642 + p as usize], s)
+}
+
+// The set, and the places of whoever depends on one of it.
+fn and_dependents(words: &[u64], s: u64) -> u64
+    requires { ⌜ T (sound-words (now words)) × (s < 2 ^ width) ⌝ }
+    ensures { λ r. ⌜ r ≡ one-round (unpack (now (words .entry)) .live) s ⌝ }
+{
+    let mut next: u64 = 0;
+    for p in 0..32u64 {
+        next = and_place(next, p, joins(words, s, p));
+    }
+    next
+}
+
+// The places of those that fall with the transaction at place p.
+pub fn fallen(words: &[u64], p: usize) -> u32
+    requires { ⌜ T (sound-words (now words)) × (p < place-count) ⌝ }
+    ensures { λ r. ⌜ r ≡ fallen-in (unpack (now (words .entry)) .live) p ⌝ }
+{
+    let mut s: u64 = 1 << p;
+    // A round that adds nothing is the last: those after it would add nothing either.
+    for _ in 0..32u32 {
+        let next = and_dependents(words, s);
+        if next == s {
+            return s as u32;
+        }
+        s = next;
+    }
+    s as u32
+}

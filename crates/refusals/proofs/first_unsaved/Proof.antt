@@ -1,0 +1,21 @@
+-- `refusals::first_unsaved` meets its contract. An object lacks its writer's entry by the words where it does by the tables, over
+-- the saved entries of its chain.
+-- Assumes nothing.
+use mathlib.Core.Path.{_∙_}
+use mathlib.Core.Bool.{false}
+use borrow.Author.Needs.{needs}
+use Rattle.refusals.proofs.Entries.{first-lacking-says}
+use Rattle.refusals.proofs.first_unsaved.Statement.{statement}
+use Rattle.refusals.proofs.first_unsaved.Tie as tie
+
+first-lacking-requires : tie.Need-first-lacking-requires
+first-lacking-requires c κs = search needs
+
+returns : tie.Need-returns
+returns c =
+    let start : tie.Start = c .before .before in
+    c .first-lacking .ensures
+    ∙ first-lacking-says (start .args .words .now) (start .pre .0) (start .args .x) (start .args .p) (start .pre .1) (start .pre .2) false
+
+pub first-unsaved-spec : {M : Type 1} → statement M
+first-unsaved-spec = tie.close (tie.spec first-lacking-requires returns)
