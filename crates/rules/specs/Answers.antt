@@ -32,6 +32,7 @@ kind-number is-restart = 0x0a
 kind-number is-status = 0x0b
 kind-number is-look = 0x0c
 
+-- the two kinds are one
 abbrev pub same-kind : Kind → Kind → Bool
 same-kind j k = eqb (kind-number j) (kind-number k)
 
@@ -106,6 +107,7 @@ is-missing t c i = has (asker t c .written) i && not (wrote-one-of (c .who) (cha
 abbrev pub is-unsaved : Tables → Call → ℕ → Bool
 is-unsaved t c i = has (asker t c .written) i && not (wrote-one-of (c .who) (object t (obj i) .saved))
 
+-- the holder of the object named
 abbrev pub holder : Tables → Call → Txn
 holder t c = object t (c .what) .holder
 
@@ -192,6 +194,7 @@ refusal-leaves bad-frame t c = t
 
 -- ---- what a call that nothing refuses gives and leaves
 
+-- the value that each kind gives when it is done
 unfoldable pub done-value : Kind → Tables → Call → ℕ
 done-value is-start t c = t .next .num
 done-value is-read t c = object (read t (c .who) (c .what)) (c .what) .working
@@ -206,6 +209,7 @@ done-value is-restart t c = live-count t
 done-value is-status t c = status t (c .who)
 done-value is-look t c = look t (c .what)
 
+-- what each kind leaves when it is done
 unfoldable pub done-leaves : Kind → Tables → Call → Tables
 done-leaves is-start t c = start t
 done-leaves is-read t c = read t (c .who) (c .what)
@@ -227,6 +231,7 @@ pub record Answer : Type 0 where
   pub number : ℕ
   pub value : ℕ
 
+-- an answer, with the tables as they are left
 pub record Outcome : Type 0 where
   pub answer : Answer
   pub tables : Tables

@@ -18,12 +18,14 @@ use Rattle.rules.specs.Runs.{starts, reads, writes, prepares, saves, com
 
 -- ---- the table: calls from fresh tables, each with its answer's number and value
 
+-- a line of a case: a call, and its answer's number and value
 pub record Line : Type 0 where
   pub asks : Call
   pub number : ℕ
   pub value : ℕ
 
 infix 15 _gives_with_
+-- a line, as one would say it
 abbrev _gives_with_ : Call → ℕ → ℕ → Line
 c gives n with v = record { asks = c; number = n; value = v }
 
@@ -39,6 +41,7 @@ two-loads =
     ∷ (saves 0 gives 0x00 with 2)
     ∷ []
 
+-- the ten marked cases
 pub marked : List (List Line)
 marked =
     -- object 31 is looked at: 00, 0; object 32: 02
@@ -81,12 +84,14 @@ as-marked t (l ∷ ls) =
     let r = call t (l .asks) in
     eqb (r .answer .number) (l .number) && eqb (r .answer .value) (l .value) && as-marked (r .tables) ls
 
+-- every marked case is answered as marked
 pub marked-cases : all (as-marked fresh) marked ≡ true
 unfolding as-marked marked fresh
 marked-cases = refl
 
 -- ---- the slips that we have seen or fear: what the rules answer where a slip would answer otherwise
 
+-- a case for each slip
 pub slips : List (List Line)
 slips =
     -- a queued write is the latest: 2 reads what 1 wrote and did not save
@@ -115,6 +120,7 @@ slips =
     ∷ (two-loads ++ (restarts gives 0x00 with 2) ∷ (starts gives 0x00 with 3) ∷ (reads 3 0 gives 0x00 with 0) ∷ [])
     ∷ []
 
+-- every case of a slip is answered as the rules say
 pub slip-cases : all (as-marked fresh) slips ≡ true
 unfolding as-marked slips fresh
 slip-cases = refl
@@ -141,6 +147,7 @@ ten-lines =
     ++ bytes "0600000001000000000000000000\n"
     ++ bytes "0b00000002000000000000000000\n"
 
+-- their ten answers
 pub ten-answers : List ℕ
 unfolding bytes
 ten-answers =
@@ -155,6 +162,7 @@ ten-answers =
     ++ bytes "060000000000000002\n"
     ++ bytes "000000000000000003\n"
 
+-- the session gives the answers
 pub paper-session : session ten-lines ≡ ten-answers
 unfolding as-marked ten-lines ten-answers fresh fields-of unused-zero number-after digits kinds call-in is-frame read-frame write-answer onto-first lines asked line answer-lines session
 paper-session = refl

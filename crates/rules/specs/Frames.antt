@@ -11,19 +11,23 @@ use Rattle.rules.specs.Tests.{all}
 use Rattle.rules.specs.Tables.{txn, obj}
 use Rattle.rules.specs.Answers.{Kind, is-start, is-read, is-write, is-prepare, is-save, is-commit, is-abort, is-settle, is-crash, is-restart, is-status, is-look, kind-number, Call, Answer}
 
+-- the byte that ends a line
 abbrev pub line-feed : ℕ
 line-feed = 10
 
 -- ---- the fields that each kind uses
 
+-- which of the three fields a kind uses
 pub record Fields : Type 0 where
   pub transaction : Bool
   pub object : Bool
   pub value : Bool
 
+-- the fields, by whether each is used
 abbrev pub uses : Bool → Bool → Bool → Fields
 uses x o v = record { transaction = x; object = o; value = v }
 
+-- the table of used fields
 unfoldable pub fields-of : Kind → Fields
 fields-of is-start = uses false false false
 fields-of is-read = uses true true false
@@ -68,6 +72,7 @@ unfoldable pub number-after : ℕ → List ℕ → ℕ
 number-after a [] = a
 number-after a (b ∷ bs) = number-after (a * 16 + digit-value b) bs
 
+-- the number that digits stand for
 abbrev pub number-in : List ℕ → ℕ
 number-in = number-after 0
 
@@ -78,6 +83,7 @@ digits (suc w) n = digits w (n / 16) ++ digit (n % 16) ∷ []
 
 -- ---- call lines: kind (2 digits), transaction (8), object (2), value (16), line feed
 
+-- how many bytes a call line has, its line feed included
 abbrev pub frame-length : ℕ
 frame-length = 29
 
@@ -98,6 +104,7 @@ kinds =
     ∷ is-look
     ∷ []
 
+-- the number of a line's kind
 abbrev pub kind-field : List ℕ → ℕ
 kind-field l = number-in (take 2 l)
 
@@ -125,6 +132,7 @@ is-frame l =
 unfoldable pub read-frame : List ℕ → Option Call
 read-frame l = cond (is-frame l) (some (call-in l)) none
 
+-- the line of a call
 unfoldable pub write-frame : Call → List ℕ
 write-frame c =
     digits 2 (kind-number (c .kind))
@@ -135,5 +143,6 @@ write-frame c =
 
 -- ---- answer lines: number (2 digits), value (16), line feed
 
+-- the line of an answer
 unfoldable pub write-answer : Answer → List ℕ
 write-answer a = digits 2 (a .number) ++ digits 16 (a .value) ++ line-feed ∷ []

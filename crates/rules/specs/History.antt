@@ -27,6 +27,7 @@ pub record Event : Type 0 where
   pub asks : Option Call
   pub answer : Answer
 
+-- what was asked, one after the other, with the answers
 unfoldable pub history : Tables → List (Option Call) → List Event
 history t [] = []
 history t (a ∷ cs) = record { asks = a; answer = asked t a .answer } ∷ history (asked t a .tables) cs
@@ -43,6 +44,7 @@ abbrev pub who-asks : Option Call → Txn
 who-asks none = record { num = 0 }
 who-asks (some c) = c .who
 
+-- the two objects are one
 abbrev pub same-object : Obj → Obj → Bool
 same-object o p = eqb (o .num) (p .num)
 
@@ -51,6 +53,7 @@ unfoldable pub is-of : Txn → Obj → Option Call → Bool
 is-of x o none = false
 is-of x o (some c) = same (c .who) x && same-object (c .what) o
 
+-- the value of a call
 abbrev pub value-of : Option Call → ℕ
 value-of none = 0
 value-of (some c) = c .value
@@ -61,6 +64,7 @@ last-value so-far [] x o = so-far
 last-value so-far (e ∷ es) x o =
     last-value (cond (is-done is-write (e .asks) (e .answer) && is-of x o (e .asks)) (some (value-of (e .asks))) so-far) es x o
 
+-- x's last accepted value for object o, where there is one
 abbrev pub last-accepted : List Event → Txn → Obj → Option ℕ
 last-accepted = last-value none
 

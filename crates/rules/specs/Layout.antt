@@ -12,48 +12,63 @@ use Rattle.rules.specs.Sound.{sound}
 
 -- ---- the places: the next number, the records' count, the log, a column of 32 words for each field, the chains
 
+-- the next number
 abbrev pub next-at : ℕ
 next-at = 0
 
+-- the count of log records
 abbrev pub log-count-at : ℕ
 log-count-at = 1
 
+-- the log
 abbrev pub log-at : ℕ
 log-at = 2
 
+-- the live transactions' numbers
 abbrev pub number-at : ℕ
 number-at = 514
 
+-- their accessed sets
 abbrev pub accessed-at : ℕ
 accessed-at = 546
 
+-- their written sets
 abbrev pub written-at : ℕ
 written-at = 578
 
+-- their prepared sets
 abbrev pub prepared-at : ℕ
 prepared-at = 610
 
+-- their dependencies
 abbrev pub depends-at : ℕ
 depends-at = 642
 
+-- the stable values
 abbrev pub stable-value-at : ℕ
 stable-value-at = 674
 
+-- the stable versions' transactions
 abbrev pub stable-writer-at : ℕ
 stable-writer-at = 706
 
+-- the stable versions' log numbers
 abbrev pub stable-number-at : ℕ
 stable-number-at = 738
 
+-- the lock holders
 abbrev pub holder-at : ℕ
 holder-at = 770
 
+-- the working values
 abbrev pub working-at : ℕ
 working-at = 802
 
+-- the counts of saved entries
 abbrev pub saved-count-at : ℕ
 saved-count-at = 834
 
+-- the counts of queued entries
 abbrev pub queued-count-at : ℕ
 queued-count-at = 866
 
@@ -61,6 +76,7 @@ queued-count-at = 866
 abbrev pub chain-value-at : ℕ
 chain-value-at = 898
 
+-- the chains' transactions
 abbrev pub chain-writer-at : ℕ
 chain-writer-at = 1154
 
@@ -86,9 +102,11 @@ chain-entry t k = getD (chain (object t (obj (k / chain-room)))) (k % chain-room
 abbrev pub of-places : Tables → (Live → ℕ) → List ℕ
 of-places t f = row place-count (λ p. f (place (t .live) p))
 
+-- a column: a word for each object
 abbrev pub of-objects : Tables → (Object → ℕ) → List ℕ
 of-objects t f = row object-count (λ i. f (object t (obj i)))
 
+-- the words of tables
 unfoldable pub pack : Tables → List ℕ
 pack t =
     (t .next .num ∷ length (t .log) ∷ [])
@@ -110,6 +128,7 @@ pack t =
 
 -- ---- words to tables
 
+-- the word at a place
 abbrev pub word : List ℕ → ℕ → ℕ
 word ws k = getD ws k 0
 
@@ -121,6 +140,7 @@ entry-in ws i j =
       writer = txn (word ws (chain-writer-at + (chain-room * i + j)));
     }
 
+-- the transaction at place p
 abbrev pub live-in : List ℕ → ℕ → Live
 live-in ws p =
     record {
@@ -135,9 +155,11 @@ live-in ws p =
 abbrev pub saved-count-in : List ℕ → ℕ → ℕ
 saved-count-in ws i = min (word ws (saved-count-at + i)) chain-room
 
+-- how many queued entries object i has, as far as a chain has room
 abbrev pub queued-count-in : List ℕ → ℕ → ℕ
 queued-count-in ws i = min (word ws (queued-count-at + i)) chain-room
 
+-- the stable version of object i
 abbrev pub version-in : List ℕ → ℕ → Version
 version-in ws i =
     record {
@@ -146,6 +168,7 @@ version-in ws i =
       at = lsn (word ws (stable-number-at + i));
     }
 
+-- object i
 abbrev pub object-in : List ℕ → ℕ → Object
 object-in ws i =
     record {
@@ -156,6 +179,7 @@ object-in ws i =
       queued = row (queued-count-in ws i) (λ j. entry-in ws i (saved-count-in ws i + j));
     }
 
+-- the tables that words hold
 unfoldable pub unpack : List ℕ → Tables
 unpack ws =
     record {

@@ -14,42 +14,55 @@ use Rattle.rules.specs.Answers.{Kind, is-start, is-read, is-write, is-pr
 
 -- ---- the calls
 
+-- a call, by its kind and fields
 abbrev pub a-call : Kind → ℕ → ℕ → ℕ → Call
 a-call k x o v = record { kind = k; who = txn x; what = obj o; value = v }
 
+-- start
 abbrev pub starts : Call
 starts = a-call is-start 0 0 0
 
+-- x reads object o
 abbrev pub reads : ℕ → ℕ → Call
 reads x o = a-call is-read x o 0
 
+-- x writes v to object o
 abbrev pub writes : ℕ → ℕ → ℕ → Call
 writes x o v = a-call is-write x o v
 
+-- x prepares object o
 abbrev pub prepares : ℕ → ℕ → Call
 prepares x o = a-call is-prepare x o 0
 
+-- save of object o
 abbrev pub saves : ℕ → Call
 saves o = a-call is-save 0 o 0
 
+-- commit of x
 abbrev pub commits : ℕ → Call
 commits x = a-call is-commit x 0 0
 
+-- abort of x
 abbrev pub aborts : ℕ → Call
 aborts x = a-call is-abort x 0 0
 
+-- settle of object o
 abbrev pub settles : ℕ → Call
 settles o = a-call is-settle 0 o 0
 
+-- crash of the objects of a set
 abbrev pub crashes : ℕ → Call
 crashes s = a-call is-crash 0 0 s
 
+-- restart
 abbrev pub restarts : Call
 restarts = a-call is-restart 0 0 0
 
+-- status of x
 abbrev pub status-of : ℕ → Call
 status-of x = a-call is-status x 0 0
 
+-- look at object o
 abbrev pub looks : ℕ → Call
 looks o = a-call is-look 0 o 0
 

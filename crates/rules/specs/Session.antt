@@ -42,6 +42,7 @@ unfoldable pub asked-words : List ℕ → Option Call → Left
 asked-words ws none = record { answer = plainly bad-frame; words = ws }
 asked-words ws (some c) = call-words ws c
 
+-- a line on lent words
 unfoldable pub line-words : List ℕ → List ℕ → Left
 line-words ws l = asked-words ws (read-frame l)
 
@@ -52,6 +53,7 @@ unfoldable pub onto-first : ℕ → List (List ℕ) → List (List ℕ)
 onto-first b [] = (b ∷ []) ∷ []
 onto-first b (l ∷ ls) = (b ∷ l) ∷ ls
 
+-- the lines of a text
 unfoldable pub lines : List ℕ → List (List ℕ)
 lines [] = []
 lines (b ∷ bs) = cond (eqb b line-feed) ((b ∷ []) ∷ lines bs) (onto-first b (lines bs))
@@ -61,6 +63,7 @@ unfoldable pub asked : Tables → Option Call → Outcome
 asked t none = record { answer = plainly bad-frame; tables = t }
 asked t (some c) = call t c
 
+-- a line on tables
 unfoldable pub line : Tables → List ℕ → Outcome
 line t l = asked t (read-frame l)
 

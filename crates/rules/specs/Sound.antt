@@ -33,9 +33,11 @@ pub data Rule : Type 0 where
 
 -- ---- the words that the rules use
 
+-- every place passes
 abbrev pub each-place : Tables → (ℕ → Live → Bool) → Bool
 each-place t p = every place-count (λ i. p i (place (t .live) i))
 
+-- every object passes
 abbrev pub each-object : Tables → (ℕ → Object → Bool) → Bool
 each-object t p = every object-count (λ i. p i (object t (obj i)))
 
@@ -48,12 +50,15 @@ unfoldable pub distinct : List Txn → Bool
 distinct [] = true
 distinct (x ∷ xs) = all (λ y. not (same x y)) xs && distinct xs
 
+-- below 2^64
 abbrev pub a-word : ℕ → Bool
 a-word v = ltb v (2 ^ 64)
 
+-- a set of at most 32 members
 abbrev pub a-set : ℕ → Bool
 a-set s = ltb s (2 ^ width)
 
+-- someone holds the lock
 abbrev pub is-held : Object → Bool
 is-held b = not (same (b .holder) nobody)
 
@@ -87,6 +92,7 @@ is-named rs v = leb 1 (v .at .num) && leb (v .at .num) (length rs) && same (reco
 
 -- ---- the rules
 
+-- what each rule asks of the tables
 unfoldable pub holds : Rule → Tables → Bool
 holds thirty-two-objects t = eqb (length (t .objects)) object-count
 holds thirty-two-places t = eqb (length (t .live)) place-count

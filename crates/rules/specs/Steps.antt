@@ -30,6 +30,7 @@ chained b s q = record { stable = b .stable; holder = b .holder; working = b .wo
 unfoldable pub free-places : Tables → ℕ
 free-places t = collect place-count (λ p. is-free (place (t .live) p))
 
+-- the next number goes to the lowest free place
 unfoldable pub start : Tables → Tables
 start t =
     with-place
@@ -44,6 +45,7 @@ start t =
 abbrev pub and-depends-on : List Live → Live → Txn → ℕ
 and-depends-on ls l y = cond (is-live ls y) (with-member (l .depends) (place-of ls y)) (l .depends)
 
+-- first access: lock, working value, dependency
 unfoldable pub take-lock : Tables → Txn → Obj → Tables
 take-lock t x o =
     let p = place-of (t .live) x in
@@ -60,9 +62,11 @@ take-lock t x o =
       depends = and-depends-on (t .live) l (e .writer);
     })
 
+-- the lock is taken at first access alone
 unfoldable pub access : Tables → Txn → Obj → Tables
 access t x o = cond (has (sets-of (t .live) x .accessed) (o .num)) t (take-lock t x o)
 
+-- read leaves what the access leaves
 unfoldable pub read : Tables → Txn → Obj → Tables
 read t x o = access t x o
 
@@ -82,11 +86,13 @@ set-working t x o v =
       depends = l .depends;
     })
 
+-- write: the access, then the given value
 unfoldable pub write : Tables → Txn → Obj → ℕ → Tables
 write t x o v = set-working (access t x o) x o v
 
 -- ---- prepare: frees the lock; if the object was written, queues the working value
 
+-- prepare of object o by x
 unfoldable pub prepare : Tables → Txn → Obj → Tables
 prepare t x o =
     let p = place-of (t .live) x in
@@ -106,6 +112,7 @@ prepare t x o =
 
 -- ---- save: all queued entries become saved, in order; gives how many
 
+-- save of object o
 unfoldable pub save : Tables → Obj → Tables
 save t o = let b = object t o in with-object t o (chained b (b .saved ++ b .queued) [])
 
@@ -122,6 +129,7 @@ struck p l =
       depends = without-member (l .depends) p;
     }
 
+-- commit of x
 unfoldable pub commit : Tables → Txn → Tables
 commit t x =
     let p = place-of (t .live) x in
@@ -152,6 +160,7 @@ undo t f =
       objects = row object-count (λ i. undone (t .live) f (object t (obj i)));
     }
 
+-- abort of x
 unfoldable pub abort : Tables → Txn → Tables
 abort t x = undo t (fallen (t .live) (place-of (t .live) x))
 
@@ -165,9 +174,11 @@ fall-count t x = how-many (fallen (t .live) (place-of (t .live) x))
 abbrev pub version-of : List Txn → Entry → Version
 version-of rs e = record { value = e .value; writer = e .writer; at = log-number rs (e .writer) }
 
+-- the entry's transaction is logged
 abbrev pub entry-logged : List Txn → Entry → Bool
 entry-logged rs e = is-logged rs (e .writer)
 
+-- an object settled
 unfoldable pub settled : List Txn → Object → Object
 settled rs b =
     record {
@@ -178,6 +189,7 @@ settled rs b =
       queued = b .queued;
     }
 
+-- settle of object o
 unfoldable pub settle : Tables → Obj → Tables
 settle t o = with-object t o (settled (t .log) (object t o))
 
@@ -187,9 +199,11 @@ settle-count t o = length (leading (entry-logged (t .log)) (object t o .saved))
 
 -- ---- crash: frees the locks of a set of objects, drops their queued entries; transactions keep their sets
 
+-- an object after a crash
 abbrev pub crashed : Object → Object
 crashed b = chained (unlocked b) (b .saved) []
 
+-- crash of the objects of s
 unfoldable pub crash : Tables → ℕ → Tables
 crash t s =
     record {
@@ -209,6 +223,7 @@ crash-count t s = sum object-count (λ i. cond (has s i) (length (object t (obj 
 unfoldable pub durable : List Txn → Object → Object
 durable rs b = chained (unlocked b) (keep (entry-logged rs) (b .saved)) []
 
+-- restart
 unfoldable pub restart : Tables → Tables
 restart t =
     record {
@@ -224,10 +239,12 @@ live-count t = count place-count (λ p. not (is-free (place (t .live) p)))
 
 -- ---- status: 1 live, 2 committed (in the log), 3 aborted
 
+-- status of x
 unfoldable pub status : Tables → Txn → ℕ
 status t x = cond (is-live (t .live) x) 1 (cond (is-logged (t .log) x) 2 3)
 
 -- ---- look: the stable value
 
+-- look at object o
 unfoldable pub look : Tables → Obj → ℕ
 look t o = object t o .stable .value

@@ -20,12 +20,15 @@ pub record Lsn : Type 0 where
 pub record Obj : Type 0 where
   pub num : ℕ
 
+-- the transaction number n
 abbrev pub txn : ℕ → Txn
 txn n = record { num = n }
 
+-- the log number n
 abbrev pub lsn : ℕ → Lsn
 lsn n = record { num = n }
 
+-- the object number n
 abbrev pub obj : ℕ → Obj
 obj n = record { num = n }
 
@@ -33,23 +36,27 @@ obj n = record { num = n }
 abbrev pub nobody : Txn
 nobody = txn 0
 
+-- the two transactions are one
 abbrev pub same : Txn → Txn → Bool
 same x y = eqb (x .num) (y .num)
 
--- how many objects there are, and how many places for live transactions
+-- how many objects there are
 abbrev pub object-count : ℕ
 object-count = 32
 
+-- how many places there are for live transactions
 abbrev pub place-count : ℕ
 place-count = 32
 
--- how many entries a chain holds, how many records the log holds, and the last transaction number
+-- how many entries a chain holds
 abbrev pub chain-room : ℕ
 chain-room = 8
 
+-- how many records the log holds
 abbrev pub log-room : ℕ
 log-room = 512
 
+-- the last transaction number
 abbrev pub last-number : ℕ
 last-number = 999_999
 
@@ -80,6 +87,7 @@ pub record Live : Type 0 where
   pub prepared : ℕ
   pub depends : ℕ
 
+-- the tables: next number, log, live transactions by place, objects
 pub record Tables : Type 0 where
   pub next : Txn
   pub log : List Txn
@@ -88,9 +96,11 @@ pub record Tables : Type 0 where
 
 -- ---- fresh tables
 
+-- the fresh version: value, transaction and log number 0
 abbrev pub fresh-version : Version
 fresh-version = record { value = 0; writer = nobody; at = lsn 0 }
 
+-- an object of fresh tables
 abbrev pub fresh-object : Object
 fresh-object = record { stable = fresh-version; holder = nobody; working = 0; saved = []; queued = [] }
 
@@ -98,6 +108,7 @@ fresh-object = record { stable = fresh-version; holder = nobody; working = 0; sa
 abbrev pub free-place : Live
 free-place = record { number = nobody; accessed = 0; written = 0; prepared = 0; depends = 0 }
 
+-- next number 1, all else empty or zero
 unfoldable pub fresh : Tables
 fresh =
     record {
@@ -109,18 +120,23 @@ fresh =
 
 -- ---- looking into the tables
 
+-- object o
 abbrev pub object : Tables → Obj → Object
 object t o = getD (t .objects) (o .num) fresh-object
 
+-- what place p has
 abbrev pub place : List Live → ℕ → Live
 place ls p = getD ls p free-place
 
+-- the tables with another object o
 abbrev pub with-object : Tables → Obj → Object → Tables
 with-object t o b = record { next = t .next; log = t .log; live = t .live; objects = set (t .objects) (o .num) b }
 
+-- the tables with another place p
 abbrev pub with-place : Tables → ℕ → Live → Tables
 with-place t p l = record { next = t .next; log = t .log; live = set (t .live) p l; objects = t .objects }
 
+-- nobody has the place
 abbrev pub is-free : Live → Bool
 is-free l = same (l .number) nobody
 
@@ -128,6 +144,7 @@ is-free l = same (l .number) nobody
 unfoldable pub place-of : List Live → Txn → ℕ
 place-of ls x = lowest place-count (λ p. same (place ls p .number) x)
 
+-- x is somebody and has a place
 unfoldable pub is-live : List Live → Txn → Bool
 is-live ls x = not (same x nobody) && ltb (place-of ls x) place-count
 
@@ -143,9 +160,11 @@ record-at rs n = getD rs (n .num - 1) nobody
 unfoldable pub log-number : List Txn → Txn → Lsn
 log-number rs x = lsn (suc (lowest (length rs) (λ i. same (getD rs i nobody) x)))
 
+-- x has a record
 unfoldable pub is-logged : List Txn → Txn → Bool
 is-logged rs x = leb (log-number rs x .num) (length rs)
 
+-- the saved entries, then the queued ones
 abbrev pub chain : Object → List Entry
 chain b = b .saved ++ b .queued
 

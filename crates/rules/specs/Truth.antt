@@ -29,6 +29,7 @@ Asks cs = T (all may-ask cs)
 abbrev pub grown : List (Option Call) → Tables
 grown cs = tables-after fresh cs
 
+-- the history from fresh tables on
 abbrev pub told : List (Option Call) → List Event
 told cs = history fresh cs
 
@@ -42,6 +43,7 @@ ObjectsHoldReplay =
 abbrev pub LogIsCommitted : Type 0
 LogIsCommitted = (cs : List (Option Call)) → Asks cs → (grown cs .log ≡ committed (told cs)) × T (distinct (grown cs .log))
 
+-- the number that a commit gives is its record's
 abbrev pub NumberIsRecord : Type 0
 NumberIsRecord =
     (cs ds : List (Option Call)) (c : Call) → Asks (cs ++ some c ∷ ds)
@@ -75,6 +77,7 @@ only-durable t =
       objects = row object-count (λ i. let b = object t (obj i) in chained (unlocked b) (b .saved) []);
     }
 
+-- for any tables
 abbrev pub DurableIsEnough : Type 0
 DurableIsEnough = (t : Tables) → restart (only-durable t) ≡ restart t
 
@@ -87,16 +90,19 @@ pub data Exported : Type 0 where
   by-line : List ℕ → Exported
   by-run : List ℕ → List ℕ → Exported
 
+-- the fields have their widths
 abbrev pub may-export : Exported → Bool
 may-export (by-call c) = in-width c
 may-export (by-line l) = true
 may-export (by-run text room) = true
 
+-- the words that an exported call leaves
 unfoldable pub exported : List ℕ → Exported → List ℕ
 exported ws (by-call c) = call-words ws c .words
 exported ws (by-line l) = line-words ws l .words
 exported ws (by-run text room) = run-words ws text room .words
 
+-- the words after exported calls, one after the other
 unfoldable pub words-after : List ℕ → List Exported → List ℕ
 words-after ws [] = ws
 words-after ws (e ∷ es) = words-after (exported ws e) es
@@ -107,10 +113,12 @@ asks-of (by-call c) = some c ∷ []
 asks-of (by-line l) = read-frame l ∷ []
 asks-of (by-run text room) = map read-frame (answered text (length room))
 
+-- what exported calls ask, one after the other
 unfoldable pub all-asks : List Exported → List (Option Call)
 all-asks [] = []
 all-asks (e ∷ es) = asks-of e ++ all-asks es
 
+-- from fresh words on, whatever they held
 abbrev pub WordsAreGrown : Type 0
 WordsAreGrown =
     (ws : List ℕ) → length ws ≡ word-count → (es : List Exported) → T (all may-export es)
@@ -125,6 +133,7 @@ all-ready t =
     ⇒ within (place (t .live) p .accessed) (place (t .live) p .prepared)
     && every object-count (λ i. has (place (t .live) p .written) i ⇒ wrote-one-of (place (t .live) p .number) (object t (obj i) .saved))
 
+-- from fresh tables on
 abbrev pub Progress : Type 0
 Progress =
     (cs : List (Option Call)) → Asks cs → T (all-ready (grown cs)) → T (some-below place-count (λ p. not (is-free (place (grown cs .live) p))))
