@@ -1,0 +1,328 @@
+// What a call answers and leaves on sound words: it is decided, then refused for its reason or done.
+ghost use mathlib.Core.Path.{_≡_};
+ghost use mathlib.Core.Bool.{cond};
+ghost use mathlib.Core.Option.{none, some};
+ghost use Prim.Native.Nat.{suc, _<_, _≤_};
+ghost use lib.Dec.{T};
+ghost use lib.ListN.{length};
+ghost use Rattle.rules.specs.Tests.{lowest, lower as lower-of, least};
+ghost use Rattle.rules.specs.Sets.{has};
+ghost use Rattle.rules.specs.Tables.{txn, obj, object-count, place-count, log-room, last-number, object, place, place-of, is-live as is-live-in};
+ghost use Rattle.rules.specs.Falls.{fallen, how-many};
+ghost use Rattle.rules.specs.Steps.{free-places, start as started, access as accessed, read as read-at, write as written, commit as committed, undo, status as status-of};
+ghost use Rattle.rules.specs.Answers.{Refusal, lost, refusal-value as value-of, refusal};
+ghost use Rattle.rules.specs.Frames.{unused-zero};
+ghost use Rattle.rules.specs.Layout.{sound-words, pack, unpack};
+ghost use Rattle.sound_laws.specs.Access.{MayAccess};
+ghost use Rattle.calls.specs.Meaning.{call-of};
+ghost use Rattle.refusals.specs.Reasons.{reason-of, Decides};
+ghost use Rattle.acts.specs.Acted.{Acted, Placed, Did, is-open, number-or};
+use calls::Answer;
+use calls::Call;
+use calls::Kind;
+use refusals::Decided;
+use refusals::Why;
+
+// ---- what the words say
+
+// Whether the transaction is live. A free place has the number 0, which names no one.
+fn is_live(words: &[u64], x: u64) -> bool
+    requires { ⌜ T (sound-words (now words)) ⌝ }
+    ensures { λ r. ⌜ r ≡ is-live-in (unpack (now (words .entry)) .live) (txn x) ⌝ }
+{
+    if x == 0 {
+        return false;
+    }
+    lookups::place_of(words, x) < 32
+}
+
+// 1 for a live transaction, 2 for a committed one, 3 for an aborted one.
+fn status(words: &[u64], x: u64) -> u64
+    requires { ⌜ T (sound-words (now words)) ⌝ }
+    ensures { λ r. ⌜ r ≡ status-of (unpack (now (words .entry))) (txn x) ⌝ }
+{
+    if is_live(words, x) {
+        return 1;
+    }
+    if lookups::log_number(words, x) <= words[1] {
+        2
+    } else {
+        3
+    }
+}
+
+// The lower of two numbers, where a 0 stands for none.
+fn lower(a: u64, b: u64) -> u64
+    ensures { λ r. ⌜ r ≡ lower-of a b ⌝ }
+{
+    if a == 0 {
+        return b;
+    }
+    if b == 0 {
+        return a;
+    }
+    if a < b { a } else { b }
+}
+
+// The number of the transaction at place p if p is one of the places; 0 where it is not.
+fn number_among(words: &[u64], places: u64, p: u64) -> u64
+    requires { ⌜ T (sound-words (now words)) × (p < place-count) ⌝ }
+    ensures { λ r. ⌜ r ≡ cond (has places p) (place (unpack (now (words .entry)) .live) p .number .num) 0 ⌝ }
+{
+    if sets::has(places, p) {
+        words[514 + p as usize]
+    } else {
+        0
+    }
+}
+
+// The lowest number among the transactions at the places of a set; 0 where the set is empty.
+fn lowest_number(words: &[u64], places: u64) -> u64
+    requires { ⌜ T (sound-words (now words)) ⌝ }
+    ensures { λ r. ⌜ r ≡ least place-count (λ p. cond (has places p) (place (unpack (now (words .entry)) .live) p .number .num) 0) ⌝ }
+{
+    let mut low: u64 = 0;
+    for p in 0..32u64 {
+        low = lower(low, number_among(words, places, p));
+    }
+    low
+}
+
+// The lowest object that the transaction at place p accessed and has not prepared, or 32 where there is none. What is
+// prepared is accessed, so the difference of the two words is the set of the rest.
+fn first_unprepared(words: &[u64], p: usize) -> u64
+    requires { ⌜ T (sound-words (now words)) × (p < place-count) ⌝ }
+    ensures { λ r. ⌜ r ≡ lowest object-count (is-open (place (unpack (now (words .entry)) .live) p)) ⌝ }
+{
+    sets::lowest((words[546 + p] - words[610 + p]) as u32) as u64
+}
+
+// ---- whether the call is done
+
+// A reason alone, for a call that names no transaction.
+fn without_place(why: Why) -> Decided
+    ensures { λ r. ⌜ r .why ≡ why ⌝ }
+{
+    Decided { why, place: 32 }
+}
+
+// Why the call is refused, if it is.
+fn decide(words: &[u64], c: Call) -> Decided
+    requires { ⌜ T (sound-words (now words)) × T (unused-zero (call-of c)) ⌝ }
+    ensures { λ r. ⌜ Decides (now (words .entry)) (call-of c) r ⌝ }
+{
+    let kind = c.kind;
+    let x = c.who.num;
+    let o = c.what.num;
+    let v = c.value;
+    match kind {
+        Kind::Start => refusals::of_start(words),
+        Kind::Read => refusals::of_access(words, x, o),
+        Kind::Write => refusals::of_access(words, x, o),
+        Kind::Prepare => refusals::of_prepare(words, x, o),
+        Kind::Save => without_place(refusals::of_object(o)),
+        Kind::Commit => refusals::of_commit(words, x),
+        Kind::Abort => refusals::of_abort(words, x),
+        Kind::Settle => without_place(refusals::of_object(o)),
+        Kind::Crash => without_place(refusals::of_set(v)),
+        Kind::Restart => without_place(Why::Done),
+        Kind::Status => Decided {
+            why: refusals::of_status(words, x),
+            place: lookups::place_of(words, x as u64),
+        },
+        Kind::Look => without_place(refusals::of_object(o)),
+    }
+}
+
+// ---- refused
+
+// The transaction at place p falls with those that depend on it; gives how many fell.
+fn fall(words: &mut [u64], p: usize) -> u64
+    requires { ⌜ T (sound-words (now words)) × (p < place-count) ⌝ }
+    ensures { λ r. ⌜ (r ≡ how-many (fallen (unpack (now (words .entry)) .live) p)) × (now (words .exit) ≡ pack (undo (unpack (now (words .entry))) (fallen (unpack (now (words .entry)) .live) p))) ⌝ }
+{
+    let f = lookups::fallen(words, p);
+    ends::undo(words, f);
+    sets::count(f) as u64
+}
+
+// The number of the answer to a call that is refused.
+fn refusal_number(why: Why) -> u64
+    ensures { λ r. ⌜ r ≡ number-or (reason-of why) ⌝ }
+{
+    match why {
+        Why::Done => 0,
+        Why::NoSuchObject => 2,
+        Why::NeverGivenOut => 3,
+        Why::NoLongerLive => 4,
+        Why::AfterAPrepare => 5,
+        Why::Lost => 6,
+        Why::Wait => 7,
+        Why::Died => 8,
+        Why::NotAccessed => 9,
+        Why::PreparedBefore => 10,
+        Why::ChainFull => 11,
+        Why::Unprepared => 12,
+        Why::Unsaved => 13,
+        Why::DependencyLive => 14,
+        Why::LogFull => 15,
+        Why::PlacesFull => 16,
+        Why::NumbersSpent => 17,
+    }
+}
+
+// The value given with a refusal for any reason but that the transaction lost an object.
+fn refusal_value(words: &[u64], c: Call, d: Decided) -> u64
+    requires { ⌜ T (sound-words (now words)) × Decides (now words) (call-of c) d ⌝ }
+    ensures { λ r. ⌜ ((q : Refusal) → reason-of (d .why) ≡ some q → (q ≡ lost → ⊥) → r ≡ value-of q (unpack (now (words .entry))) (call-of c)) ⌝ }
+{
+    let why = d.why;
+    let p = d.place;
+    let x = c.who.num as u64;
+    let o = c.what.num as usize;
+    match why {
+        Why::NoLongerLive => status(words, x),
+        Why::Wait => words[770 + o],
+        Why::Died => words[770 + o],
+        Why::Unprepared => first_unprepared(words, p),
+        Why::Unsaved => refusals::first_unsaved(words, x, p) as u64,
+        Why::DependencyLive => lowest_number(words, words[642 + p]),
+        _ => 0,
+    }
+}
+
+// The answer to a call that is refused, and what the refusal leaves: whoever lost an object or died falls.
+fn refuse(words: &mut [u64], c: Call, d: Decided) -> Answer
+    requires { ⌜ T (sound-words (now words)) × Decides (now words) (call-of c) d × (reason-of (d .why) ≡ none → ⊥) ⌝ }
+    ensures { λ r. ⌜ Acted (now (words .entry)) (call-of c) r (now (words .exit)) ⌝ }
+{
+    let why = d.why;
+    let p = d.place;
+    let number = refusal_number(why);
+    match why {
+        Why::Lost => {
+            let fell = fall(words, p);
+            Answer {
+                number,
+                value: fell,
+            }
+        }
+        Why::Died => {
+            let holder = refusal_value(words, c, d);
+            fall(words, p);
+            Answer {
+                number,
+                value: holder,
+            }
+        }
+        _ => {
+            let value = refusal_value(words, c, d);
+            Answer { number, value }
+        }
+    }
+}
+
+// ---- done
+
+// Gives the number that start gives out.
+fn start(words: &mut [u64]) -> u64
+    requires { ⌜ T (sound-words (now words)) × (unpack (now words) .next .num ≤ last-number) × (0 < free-places (unpack (now words))) ⌝ }
+    ensures { λ r. ⌜ (r ≡ unpack (now (words .entry)) .next .num) × (now (words .exit) ≡ pack (started (unpack (now (words .entry))))) ⌝ }
+{
+    let next = words[0];
+    locks::start(words);
+    next
+}
+
+// The lock of object o for the transaction x at place p, if it has not accessed the object before.
+fn access(words: &mut [u64], x: u64, p: usize, o: usize)
+    requires { ⌜ T (sound-words (now words)) × MayAccess (unpack (now words)) (txn x) o × (p ≡ place-of (unpack (now words) .live) (txn x)) ⌝ }
+    ensures { λ r. ⌜ now (words .exit) ≡ pack (accessed (unpack (now (words .entry))) (txn x) (obj o)) ⌝ }
+{
+    if !sets::has(words[546 + p], o as u64) {
+        locks::lock(words, x, p, o);
+    }
+}
+
+// Gives the working value.
+fn read(words: &mut [u64], x: u64, p: usize, o: usize) -> u64
+    requires { ⌜ T (sound-words (now words)) × MayAccess (unpack (now words)) (txn x) o × (p ≡ place-of (unpack (now words) .live) (txn x)) ⌝ }
+    ensures { λ r. ⌜ (r ≡ object (read-at (unpack (now (words .entry))) (txn x) (obj o)) (obj o) .working) × (now (words .exit) ≡ pack (read-at (unpack (now (words .entry))) (txn x) (obj o))) ⌝ }
+{
+    access(words, x, p, o);
+    words[802 + o]
+}
+
+// Sets the working value.
+fn write(words: &mut [u64], x: u64, p: usize, o: usize, v: u64)
+    requires { ⌜ T (sound-words (now words)) × MayAccess (unpack (now words)) (txn x) o × (p ≡ place-of (unpack (now words) .live) (txn x)) ⌝ }
+    ensures { λ r. ⌜ now (words .exit) ≡ pack (written (unpack (now (words .entry))) (txn x) (obj o) v) ⌝ }
+{
+    access(words, x, p, o);
+    locks::set_working_value(words, x, p, o, v);
+}
+
+// Gives the log number of the record that commit adds.
+fn commit(words: &mut [u64], x: u64, p: usize) -> u64
+    requires { ⌜ T (sound-words (now words)) × T (is-live-in (unpack (now words) .live) (txn x)) × (p ≡ place-of (unpack (now words) .live) (txn x)) × (length (unpack (now words) .log) < log-room) ⌝ }
+    ensures { λ r. ⌜ (r ≡ suc (length (unpack (now (words .entry)) .log))) × (now (words .exit) ≡ pack (committed (unpack (now (words .entry))) (txn x))) ⌝ }
+{
+    let number = words[1] + 1;
+    ends::commit(words, x, p);
+    number
+}
+
+// What a call that nothing refuses gives and leaves; p is the place of the transaction that it names, where that is live.
+fn give(words: &mut [u64], c: Call, p: usize) -> u64
+    requires { ⌜ T (sound-words (now words)) × (refusal (unpack (now words)) (call-of c) ≡ none) × Placed (now words) (call-of c) p ⌝ }
+    ensures { λ r. ⌜ Did (now (words .entry)) (call-of c) r (now (words .exit)) ⌝ }
+{
+    let kind = c.kind;
+    let x = c.who.num as u64;
+    let o = c.what.num as usize;
+    let v = c.value;
+    match kind {
+        Kind::Start => start(words),
+        Kind::Read => read(words, x, p, o),
+        Kind::Write => {
+            write(words, x, p, o, v);
+            0
+        }
+        Kind::Prepare => {
+            locks::prepare(words, x, p, o);
+            0
+        }
+        Kind::Save => locks::save(words, o),
+        Kind::Commit => commit(words, x, p),
+        Kind::Abort => fall(words, p),
+        Kind::Settle => ends::settle(words, o),
+        Kind::Crash => ends::crash(words, v),
+        Kind::Restart => ends::restart(words),
+        Kind::Status => status(words, x),
+        Kind::Look => words[674 + o],
+    }
+}
+
+// The answer to a call that nothing refuses, and what it leaves.
+fn done(words: &mut [u64], c: Call, p: usize) -> Answer
+    requires { ⌜ T (sound-words (now words)) × (refusal (unpack (now words)) (call-of c) ≡ none) × Placed (now words) (call-of c) p ⌝ }
+    ensures { λ r. ⌜ Acted (now (words .entry)) (call-of c) r (now (words .exit)) ⌝ }
+{
+    Answer {
+        number: 0,
+        value: give(words, c, p),
+    }
+}
+
+// One call on sound words: the answer and every word are the rules'.
+pub fn call(words: &mut [u64], c: Call) -> Answer
+    requires { ⌜ T (sound-words (now words)) × T (unused-zero (call-of c)) ⌝ }
+    ensures { λ r. ⌜ Acted (now (words .entry)) (call-of c) r (now (words .exit)) ⌝ }
+{
+    let d = decide(words, c);
+    let why = d.why;
+    match why {
+        Why::Done => done(words, c, d.place),
+        _ => refuse(words, c, d),
+    }
+}

@@ -1,0 +1,4 @@
+pub mod Cut
+pub mod Kept
+pub mod Ran
+pub mod Stepped

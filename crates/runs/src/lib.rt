@@ -1,0 +1,82 @@
+// A text of many lines on sound words: each line is answered in turn, as long as the answers' room has a line left.
+ghost use mathlib.Core.Path.{_≡_};
+ghost use Prim.Native.Nat.{_+_, _≤_, _<_};
+ghost use lib.Dec.{T};
+ghost use lib.ListN.{length};
+ghost use Rattle.rules.specs.Layout.{sound-words};
+ghost use Rattle.runs.specs.Cut.{FirstLine};
+ghost use Rattle.runs.specs.Ran.{RanLines, LineActed};
+ghost use Rattle.runs.specs.Stepped.{Stepped};
+use calls::Answer;
+use frames::Parsed;
+
+const LINE_FEED: u8 = 10;
+
+// The answer to a line that is no frame.
+const BAD_FRAME: u64 = 0x12;
+
+// How many lines were answered, and how many bytes of the text they were.
+pub struct Ran {
+    pub lines: usize,
+    pub used: usize,
+}
+
+// One line on sound words.
+pub fn line(words: &mut [u64], line: &[u8]) -> Answer
+    requires { ⌜ T (sound-words (now words)) ⌝ }
+    ensures { λ r. ⌜ LineActed (now (words .entry)) (now (line .entry)) r (now (words .exit)) ⌝ }
+{
+    let parsed = frames::read(line);
+    match parsed {
+        Parsed::Asks(c) => acts::call(words, c),
+        Parsed::Bad => Answer {
+            number: BAD_FRAME,
+            value: 0,
+        },
+    }
+}
+
+// How many bytes the first line of a text has, its line feed among them.
+fn line_length(text: &[u8]) -> usize
+    requires { ⌜ 0 < length (now text) ⌝ }
+    ensures { λ r. ⌜ FirstLine (now (text .entry)) r ⌝ }
+{
+    let mut passed = 0;
+    while passed < text.len() {
+        if text[passed] == LINE_FEED {
+            return passed + 1;
+        }
+        passed += 1;
+    }
+    passed
+}
+
+// Answers the first line of a text at a place of the room, and gives how many bytes the line has.
+fn step(words: &mut [u64], text: &[u8], answers: &mut [u8], to: usize) -> usize
+    requires { ⌜ T (sound-words (now words)) × (0 < length (now text)) × (to + 19 ≤ length (now answers)) ⌝ }
+    ensures { λ r. ⌜ Stepped (now (words .entry)) (now (text .entry)) (now (answers .entry)) to r (now (words .exit)) (now (answers .exit)) ⌝ }
+{
+    let length = line_length(text);
+    let answer = line(words, &text[..length]);
+    frames::write(answers, to, answer);
+    length
+}
+
+// Answers the lines of a text one after the other while the room has 19 bytes left.
+pub fn run(words: &mut [u64], calls: &[u8], answers: &mut [u8]) -> Ran
+    requires { ⌜ T (sound-words (now words)) ⌝ }
+    ensures { λ r. ⌜ RanLines (now (words .entry)) (now (calls .entry)) (now (answers .entry)) r (now (words .exit)) (now (answers .exit)) ⌝ }
+{
+    let mut lines = 0;
+    let mut used = 0;
+    let mut to = 0;
+    while used < calls.len() {
+        if answers.len() < to + 19 {
+            return Ran { lines, used };
+        }
+        used += step(words, &calls[used..], answers, to);
+        to += 19;
+        lines += 1;
+    }
+    Ran { lines, used }
+}
