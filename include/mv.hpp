@@ -18,33 +18,21 @@
 
 namespace mv {
 
-// A transaction number, an object number and a log number: none converts to another, nor from a plain number unasked.
-struct Txn {
-    std::uint32_t num = 0;
-    constexpr Txn() noexcept = default;
-    explicit constexpr Txn(std::uint32_t number) noexcept : num(number) {}
-    friend constexpr bool operator==(Txn a, Txn b) noexcept { return a.num == b.num; }
-    friend constexpr bool operator!=(Txn a, Txn b) noexcept { return a.num != b.num; }
-    friend constexpr bool operator<(Txn a, Txn b) noexcept { return a.num < b.num; }
+// A number of one kind: it converts neither to a number of another kind nor, unasked, from a plain one.
+template <class Kind, class Width>
+struct Numbered {
+    Width num = 0;
+    constexpr Numbered() noexcept = default;
+    explicit constexpr Numbered(Width number) noexcept : num(number) {}
+    friend constexpr bool operator==(Numbered a, Numbered b) noexcept { return a.num == b.num; }
+    friend constexpr bool operator!=(Numbered a, Numbered b) noexcept { return a.num != b.num; }
+    friend constexpr bool operator<(Numbered a, Numbered b) noexcept { return a.num < b.num; }
 };
 
-struct Obj {
-    std::uint8_t num = 0;
-    constexpr Obj() noexcept = default;
-    explicit constexpr Obj(std::uint8_t number) noexcept : num(number) {}
-    friend constexpr bool operator==(Obj a, Obj b) noexcept { return a.num == b.num; }
-    friend constexpr bool operator!=(Obj a, Obj b) noexcept { return a.num != b.num; }
-    friend constexpr bool operator<(Obj a, Obj b) noexcept { return a.num < b.num; }
-};
-
-struct Lsn {
-    std::uint64_t num = 0;
-    constexpr Lsn() noexcept = default;
-    explicit constexpr Lsn(std::uint64_t number) noexcept : num(number) {}
-    friend constexpr bool operator==(Lsn a, Lsn b) noexcept { return a.num == b.num; }
-    friend constexpr bool operator!=(Lsn a, Lsn b) noexcept { return a.num != b.num; }
-    friend constexpr bool operator<(Lsn a, Lsn b) noexcept { return a.num < b.num; }
-};
+// Transaction, object and log numbers; 0 names no transaction and no record, objects are numbered from 0.
+using Txn = Numbered<struct TxnKind, std::uint32_t>;
+using Obj = Numbered<struct ObjKind, std::uint8_t>;
+using Lsn = Numbered<struct LsnKind, std::uint64_t>;
 
 // A set of objects, for a crash.
 struct ObjSet {

@@ -4,6 +4,7 @@
 #include <cstdio>
 #include <cstring>
 #include <string_view>
+#include <type_traits>
 
 #include "mv.hpp"
 
@@ -56,3 +57,9 @@ inline int both_ways() {
     if (mv_word_count() != mv::kWords) ++differ, std::printf("word count\n");
     return differ;
 }
+
+// The three kinds of number stay apart.
+static_assert(!std::is_convertible_v<mv::Txn, mv::Obj> && !std::is_convertible_v<mv::Obj, mv::Txn>);
+static_assert(!std::is_convertible_v<mv::Txn, mv::Lsn> && !std::is_convertible_v<mv::Lsn, mv::Txn>);
+static_assert(!std::is_constructible_v<mv::Txn, mv::Lsn> && !std::is_constructible_v<mv::Obj, mv::Lsn>);
+static_assert(!std::is_convertible_v<unsigned, mv::Txn> && !std::is_convertible_v<mv::Txn, unsigned>);
