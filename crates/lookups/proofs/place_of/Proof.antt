@@ -11,7 +11,7 @@ scan-requires : tie.Need-scan-requires
 scan-requires c κs = omega (arith, fitting (c .before .args .words .now) (c .before .pre))
 
 returns : tie.Need-returns
-returns c = c .scan .ensures ∙ first-place (c .before .before .args .words .now) (c .before .before .args .x)
+returns c = c .scan .ensures ∙ first-place (c .before .before .args .words .now) (c .before .before .args .x .num)
 
 pub place-of-spec : {M : Type 1} → statement M
 place-of-spec = tie.close (tie.spec scan-requires returns)
