@@ -2,7 +2,7 @@
 // object (2) and value (16), an answer's its number (2) and value (16), each with a line feed. Digits are lower-case
 // hexadecimal, high digits first. specs/Parts.antt says what each function here gives.
 ghost use mathlib.Core.Path.{_≡_};
-ghost use Prim.Native.Nat.{_+_, _^_, _/_, _%_, _≤_, _<_};
+ghost use Prim.Native.Nat.{_+_, _/_, _%_, _≤_, _<_};
 ghost use lib.Dec.{T, eqb};
 ghost use lib.ListN.{length};
 ghost use Rattle.rules.specs.Frames.{fields-of, unused-zero, digit, digits, read-frame};
@@ -157,7 +157,6 @@ fn unused_zero(kind: u64, who: u64, what: u64, value: u64) -> bool
 
 // What four fields ask.
 fn ask(number: u64, who: u64, what: u64, value: u64) -> Parsed
-    requires { ⌜ (who < 2 ^ 32) × (what < 2 ^ 8) ⌝ }
     ensures { λ r. ⌜ parsed-as r ≡ asked number who what value ⌝ }
 {
     let Named::Is(kind) = kind(number) else {
@@ -168,8 +167,8 @@ fn ask(number: u64, who: u64, what: u64, value: u64) -> Parsed
     }
     Parsed::Asks(Call {
         kind,
-        who: Txn { num: who as u32 },
-        what: Obj { num: what as u8 },
+        who: Txn { num: who },
+        what: Obj { num: what as usize },
         value,
     })
 }

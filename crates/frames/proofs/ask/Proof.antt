@@ -64,12 +64,6 @@ returns-2 c =
     let (is, same) = found (c .before .before) in
     rw (is, sym (c .before .unused-zero .ensures) ∙ not-true _ (c .if1 .taken))
 
-cast-t9 : tie.Need-cast-t9
-cast-t9 c = search needs
-
-cast-t11 : tie.Need-cast-t11
-cast-t11 c = search needs
-
 returns-3 : tie.Need-returns-3
 returns-3 c =
     let (is, same) = found (c .before .before) in
@@ -85,6 +79,4 @@ ask-spec =
     returns
     unused-zero-requires
     returns-2
-    cast-t9
-    cast-t11
     returns-3)
