@@ -44,7 +44,7 @@ enum-told c = search needs
 returns : tie.Need-returns
 returns c =
     let a = c .before .before .before .args in
-    let call = call-numbered (a .number) (a .who) (a .what) (a .value) in
+    let call = call-numbered (a .number) (a .who .num) (a .what .num) (a .value) in
     stopped (is-kind (a .number)) (unused-zero call) (kind-numbered (a .number)) call
     (sym (ap named-as (c .enum-told .given .1)) ∙ c .before .before .kind .ensures)
 
