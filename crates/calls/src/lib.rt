@@ -1,9 +1,10 @@
 // The numbers, the calls and the answers as the code has them: transaction, log and object numbers are three types, so
-// that none serves as another. specs/Meaning.antt says which of the rules' calls and answers each stands for.
+// that none serves as another. Each is as wide as a word of the tables, so that what is read there is wrapped as it is.
+// specs/Meaning.antt says which of the rules' numbers, calls and answers each stands for.
 
 // A transaction number; 0 names nobody.
 pub struct Txn {
-    pub num: u32,
+    pub num: u64,
 }
 
 // A log number; 0 names no record.
@@ -13,7 +14,7 @@ pub struct Lsn {
 
 // An object number; those from 32 on name no object.
 pub struct Obj {
-    pub num: u8,
+    pub num: usize,
 }
 
 // The twelve kinds of call.

@@ -1,20 +1,19 @@
 -- What the fields of a line say of the whole line.
--- Rests on the rules' Frames, on frames_laws' Stretches and Digits, and on Parts. Assumes nothing.
+-- Rests on the rules' Frames, on frames_laws' Stretches, and on Parts. Assumes nothing.
 use mathlib.Core.Path.{_≡_, sym}
 use mathlib.Core.Bool.{Bool, true, false, cond}
 use mathlib.Core.List.{List}
 use mathlib.Core.Option.{none, some}
-use Prim.Native.Nat.{ℕ, _-_, _^_, _≤_, _<_}
+use Prim.Native.Nat.{ℕ, _-_, _≤_}
 use native.Mathlib.Omega.{arith}
 use borrow.Author.Tests.{eq-eqb}
 use lib.Dec.{T}
-use lib.ListN.{length, getD, take, drop, length-drop}
-use lib.Seq.{length-take-le, take-add}
+use lib.ListN.{length, getD, take}
+use lib.Seq.{take-add}
 use Rattle.rules.specs.Tests.{all}
 use Rattle.rules.specs.Frames.{line-feed, frame-length, is-digit, number-in, call-in, is-frame, read-frame}
 use Rattle.basics.specs.Logic.{is-true, cond-false}
 use Rattle.frames_laws.specs.Stretches.{passed, all-append, all-stretch}
-use Rattle.frames_laws.specs.Digits.{number-bound}
 use Rattle.frames.specs.declared.Digits.the-variants.{Number, Mixed}
 use Rattle.frames.specs.Parts.{field, digits-after, digits-in, asked}
 
@@ -40,13 +39,6 @@ not-all-digits l = go (all is-digit l)
     go : (b : Bool) → Mixed ≡ cond b (Number (number-in l)) Mixed → T b → ⊥
     go true e t = mixed-is-no-number (number-in l) e
     go false e t = t
-
--- the number of a field is below 16 to its width
-field-bound : (from end n : ℕ) (l : List ℕ) → end ≤ length l → Number n ≡ digits-in (field from end l) → n < 16 ^ (end - from)
-field-bound from end n l h e =
-    let (hex, is) = all-digits (field from end l) n e in
-    let width : length (field from end l) ≡ end - from = length-take-le (end - from) (drop from l) (rw length-drop (omega arith)) in
-    rw is (rw width at (number-bound (field from end l) hex))
 
 -- ---- lines that are no frame
 
@@ -79,10 +71,6 @@ pub record Shaped (l : List ℕ) (k x o v : ℕ) : Type 0 where
   pub who : Number x ≡ digits-in (field 2 10 l)
   pub what : Number o ≡ digits-in (field 10 12 l)
   pub value : Number v ≡ digits-in (field 12 28 l)
-
--- the transaction and the object of such a line have their widths
-pub in-widths : (l : List ℕ) (k x o v : ℕ) → Shaped l k x o v → (x < 2 ^ 32) × (o < 2 ^ 8)
-in-widths l k x o v s = (field-bound 2 10 x l (omega arith) (s .who), field-bound 10 12 o l (omega arith) (s .what))
 
 -- such a line is read as what its four fields ask
 pub read-fields : (l : List ℕ) (k x o v : ℕ) → Shaped l k x o v → asked k x o v ≡ read-frame l

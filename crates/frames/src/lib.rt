@@ -2,7 +2,7 @@
 // object (2) and value (16), an answer's its number (2) and value (16), each with a line feed. Digits are lower-case
 // hexadecimal, high digits first. specs/Parts.antt says what each function here gives.
 ghost use mathlib.Core.Path.{_≡_};
-ghost use Prim.Native.Nat.{_+_, _^_, _/_, _%_, _≤_, _<_};
+ghost use Prim.Native.Nat.{_+_, _/_, _%_, _≤_, _<_};
 ghost use lib.Dec.{T, eqb};
 ghost use lib.ListN.{length};
 ghost use Rattle.rules.specs.Frames.{fields-of, unused-zero, digit, digits, read-frame};
@@ -144,21 +144,20 @@ fn has(fields: u8, field: u8) -> bool
 }
 
 // Tells whether every field that a kind does not use is zero.
-fn unused_zero(kind: u64, who: u64, what: u64, value: u64) -> bool
+fn unused_zero(kind: u64, who: Txn, what: Obj, value: u64) -> bool
     requires { ⌜ T (is-kind kind) ⌝ }
-    ensures { λ r. ⌜ r ≡ unused-zero (call-numbered kind who what value) ⌝ }
+    ensures { λ r. ⌜ r ≡ unused-zero (call-numbered kind (who .num) (what .num) value) ⌝ }
 {
     let uses = fields(kind);
-    let who_fits = has(uses, TRANSACTION) | (who == 0);
-    let what_fits = has(uses, OBJECT) | (what == 0);
+    let who_fits = has(uses, TRANSACTION) | (who.num == 0);
+    let what_fits = has(uses, OBJECT) | (what.num == 0);
     let value_fits = has(uses, VALUE) | (value == 0);
     who_fits & what_fits & value_fits
 }
 
 // What four fields ask.
-fn ask(number: u64, who: u64, what: u64, value: u64) -> Parsed
-    requires { ⌜ (who < 2 ^ 32) × (what < 2 ^ 8) ⌝ }
-    ensures { λ r. ⌜ parsed-as r ≡ asked number who what value ⌝ }
+fn ask(number: u64, who: Txn, what: Obj, value: u64) -> Parsed
+    ensures { λ r. ⌜ parsed-as r ≡ asked number (who .num) (what .num) value ⌝ }
 {
     let Named::Is(kind) = kind(number) else {
         return Parsed::Bad;
@@ -168,8 +167,8 @@ fn ask(number: u64, who: u64, what: u64, value: u64) -> Parsed
     }
     Parsed::Asks(Call {
         kind,
-        who: Txn { num: who as u32 },
-        what: Obj { num: what as u8 },
+        who,
+        what,
         value,
     })
 }
@@ -197,7 +196,7 @@ pub fn read(line: &[u8]) -> Parsed
     let Digits::Number(value) = number(&values, line, 12, 28) else {
         return Parsed::Bad;
     };
-    ask(kind, who, what, value)
+    ask(kind, Txn { num: who }, Obj { num: what as usize }, value)
 }
 
 // Writes a number as so many digits at a place of the room. The last digit comes first: it is what a division leaves.

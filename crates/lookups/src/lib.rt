@@ -6,18 +6,22 @@ ghost use Prim.Native.Nat.{_+_, _^_, _≤_, _<_};
 ghost use lib.Dec.{T};
 ghost use lib.ListN.{length};
 ghost use Rattle.rules.specs.Sets.{width};
-ghost use Rattle.rules.specs.Tables.{txn, obj, place-count, object-count, object, place-of as place-in, log-number as number-in, latest as latest-of};
+ghost use Rattle.rules.specs.Tables.{place-count, object-count, object, place-of as place-in, log-number as number-in, latest as latest-of};
 ghost use Rattle.rules.specs.Falls.{and-dependents as one-round, fallen as fallen-in};
 ghost use Rattle.rules.specs.Steps.{free-places as free-in};
-ghost use Rattle.rules.specs.Layout.{sound-words, unpack};
+ghost use Rattle.rules.specs.Layout.{number-at, word-count, sound-words, unpack};
+ghost use Rattle.calls.specs.Meaning.{txn-of, lsn-of, obj-of};
 ghost use Rattle.lookups.specs.Entries.{entry-of, entry-words};
 ghost use Rattle.lookups.specs.Rounds.{joins-in};
 ghost use Rattle.lookups.specs.Scans.{first-at};
+use calls::Lsn;
+use calls::Obj;
+use calls::Txn;
 
 // A version: its value and the transaction that wrote it.
 pub struct Entry {
     pub value: u64,
-    pub writer: u64,
+    pub writer: Txn,
 }
 
 // The first of the `count` words from `from` on that is x, counted from 0, or `count` where none is.
@@ -33,21 +37,30 @@ fn scan(words: &[u64], from: usize, count: usize, x: u64) -> usize
     count
 }
 
-// The place of a live transaction, or 32 where it has none.
-pub fn place_of(words: &[u64], x: u64) -> usize
-    requires { ⌜ T (sound-words (now words)) ⌝ }
-    ensures { λ r. ⌜ r ≡ place-in (unpack (now (words .entry)) .live) (txn x) ⌝ }
+// The lowest place with the number x, or 32 where none has it; the words need not be sound.
+pub fn seat(words: &[u64], x: Txn) -> usize
+    requires { ⌜ length (now words) ≡ word-count ⌝ }
+    ensures { λ r. ⌜ r ≡ first-at (now (words .entry)) number-at place-count (x .num) ⌝ }
 {
-    scan(words, 514, 32, x)
+    scan(words, 514, 32, x.num)
+}
+
+// The place of a live transaction, or 32 where it has none.
+pub fn place_of(words: &[u64], x: Txn) -> usize
+    requires { ⌜ T (sound-words (now words)) ⌝ }
+    ensures { λ r. ⌜ r ≡ place-in (unpack (now (words .entry)) .live) (txn-of x) ⌝ }
+{
+    seat(words, x)
 }
 
 // The log number of a logged transaction, or one past the last record where it is not logged.
-pub fn log_number(words: &[u64], x: u64) -> u64
+pub fn log_number(words: &[u64], x: Txn) -> Lsn
     requires { ⌜ T (sound-words (now words)) ⌝ }
-    ensures { λ r. ⌜ r ≡ number-in (unpack (now (words .entry)) .log) (txn x) .num ⌝ }
+    ensures { λ r. ⌜ lsn-of r ≡ number-in (unpack (now (words .entry)) .log) (txn-of x) ⌝ }
 {
     let count = words[1] as usize;
-    1 + scan(words, 2, count, x) as u64
+    let number = 1 + scan(words, 2, count, x.num) as u64;
+    Lsn { num: number }
 }
 
 // The set, and place p above all its members where p passes.
@@ -77,20 +90,21 @@ fn entry_at(words: &[u64], value: usize, writer: usize) -> Entry
 {
     Entry {
         value: words[value],
-        writer: words[writer],
+        writer: Txn { num: words[writer] },
     }
 }
 
 // An object's latest version: the chain's last entry, queued or saved, else the stable version.
-pub fn latest(words: &[u64], o: usize) -> Entry
-    requires { ⌜ T (sound-words (now words)) × (o < object-count) ⌝ }
-    ensures { λ r. ⌜ entry-of r ≡ latest-of (object (unpack (now (words .entry))) (obj o)) ⌝ }
+pub fn latest(words: &[u64], o: Obj) -> Entry
+    requires { ⌜ T (sound-words (now words)) × (o .num < object-count) ⌝ }
+    ensures { λ r. ⌜ entry-of r ≡ latest-of (object (unpack (now (words .entry))) (obj-of o)) ⌝ }
 {
-    let count = (words[834 + o] + words[866 + o]) as usize;
+    let i = o.num;
+    let count = (words[834 + i] + words[866 + i]) as usize;
     if count == 0 {
-        entry_at(words, 674 + o, 706 + o)
+        entry_at(words, 674 + i, 706 + i)
     } else {
-        let last = 8 * o + (count - 1);
+        let last = 8 * i + (count - 1);
         entry_at(words, 898 + last, 1154 + last)
     }
 }

@@ -44,8 +44,10 @@ fn ask(words: &mut [u64], kind: Kind, txn: u32, object: u8, value: u64) -> Answe
 {
     let c = Call {
         kind,
-        who: Txn { num: txn },
-        what: Obj { num: object },
+        who: Txn { num: txn as u64 },
+        what: Obj {
+            num: object as usize,
+        },
         value,
     };
     one(words, c)

@@ -44,7 +44,7 @@ enum-told c = search needs
 returns : tie.Need-returns
 returns c =
     let a = c .before .before .before .args in
-    let call = call-numbered (a .number) (a .who) (a .what) (a .value) in
+    let call = call-numbered (a .number) (a .who .num) (a .what .num) (a .value) in
     stopped (is-kind (a .number)) (unused-zero call) (kind-numbered (a .number)) call
     (sym (ap named-as (c .enum-told .given .1)) ∙ c .before .before .kind .ensures)
 
@@ -64,12 +64,6 @@ returns-2 c =
     let (is, same) = found (c .before .before) in
     rw (is, sym (c .before .unused-zero .ensures) ∙ not-true _ (c .if1 .taken))
 
-cast-t9 : tie.Need-cast-t9
-cast-t9 c = search needs
-
-cast-t11 : tie.Need-cast-t11
-cast-t11 c = search needs
-
 returns-3 : tie.Need-returns-3
 returns-3 c =
     let (is, same) = found (c .before .before) in
@@ -85,6 +79,4 @@ ask-spec =
     returns
     unused-zero-requires
     returns-2
-    cast-t9
-    cast-t11
     returns-3)

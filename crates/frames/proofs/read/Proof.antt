@@ -1,12 +1,12 @@
 -- `frames::read` meets its contract: a line of another length or end, and one with a field that is not all digits, is
--- refused by the rules too; of any other the rules read what its four fields ask, and the fields have their widths.
+-- refused by the rules too; of any other the rules read what its four fields ask.
 -- Assumes nothing.
 use mathlib.Core.Path.{sym, _∙_}
 use mathlib.Core.List.{List}
 use Prim.Native.Nat.{ℕ}
 use native.Mathlib.Omega.{arith}
 use borrow.Author.Needs.{needs}
-use Rattle.frames.proofs.Lines.{wrong-length, wrong-end, wrong-field, Shaped, in-widths, read-fields}
+use Rattle.frames.proofs.Lines.{wrong-length, wrong-end, wrong-field, Shaped, read-fields}
 use Rattle.frames.proofs.read.Statement.{statement}
 use Rattle.frames.proofs.read.Tie as tie
 
@@ -119,7 +119,7 @@ shaped c =
     }
 
 ask-requires : tie.Need-ask-requires
-ask-requires c κs = in-widths _ _ _ _ _ (shaped c)
+ask-requires c κs = search needs
 
 returns-7 : tie.Need-returns-7
 returns-7 c = c .ask .ensures ∙ read-fields _ _ _ _ _ (shaped (c .before))

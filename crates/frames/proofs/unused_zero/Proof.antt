@@ -43,10 +43,10 @@ has-requires-3 c κs = search needs
 returns : tie.Need-returns
 unfolding unused-zero
 returns c =
-    let f = fields-of (kind-numbered (c .before .before .before .before .args .kind)) in
+    let f = fields-of (kind-numbered (c .before .before .before .before .before .before .args .kind)) in
     let (x, o, v) = unpacked (f .transaction) (f .object) (f .value) in
-    rw (c .before .before .has .ensures, c .before .has2 .ensures, c .has3 .ensures)
-    (rw (c .before .before .before .fields .ensures, x, o, v))
+    rw (c .before .before .before .before .has .ensures, c .before .before .has2 .ensures, c .has3 .ensures)
+    (rw (c .before .before .before .before .before .fields .ensures, x, o, v))
 
 pub unused-zero-spec : {M : Type 1} → statement M
 unused-zero-spec = tie.close (tie.spec fields-requires has-requires has-requires-2 has-requires-3 returns)

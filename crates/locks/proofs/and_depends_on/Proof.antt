@@ -13,10 +13,10 @@ use Rattle.locks.proofs.and_depends_on.Tie as tie
 
 returns : tie.Need-returns
 returns c =
-    let a = c .before .before .args in
+    let a = c .before .before .before .args in
     sym
-    (depends-gone (a .words .now) (a .d) (a .y)
-    (nobody-not-live (unpack (a .words .now) .live) (txn (a .y)) (c .if1 .taken)))
+    (depends-gone (a .words .now) (a .d) (a .y .num)
+    (nobody-not-live (unpack (a .words .now) .live) (txn (a .y .num)) (c .if1 .taken)))
 
 place-of-requires : tie.Need-place-of-requires
 place-of-requires c κs = search needs
@@ -26,20 +26,20 @@ with-requires c κs = search needs
 
 returns-2 : tie.Need-returns-2
 returns-2 c =
-    let a = c .before .before .before .before .before .args in
+    let a = c .before .before .before .before .before .before .args in
     let e = c .before .before .place-of .ensures in
     let named = c .before .before .before .if1 .left in
     c .with .ensures
     ∙ ap (with-member (a .d)) e
-    ∙ sym (depends-live (a .words .now) (a .d) (a .y) named (omega (arith, c .before .if2 .taken)))
+    ∙ sym (depends-live (a .words .now) (a .d) (a .y .num) named (omega (arith, c .before .if2 .taken)))
 
 returns-3 : tie.Need-returns-3
 returns-3 c =
-    let a = c .before .before .before .before .args in
+    let a = c .before .before .before .before .before .args in
     let e = c .before .place-of .ensures in
     sym
-    (depends-gone (a .words .now) (a .d) (a .y)
-    (λ t. let h = live-at (unpack (a .words .now) .live) (txn (a .y)) t .below in omega (arith, c .if2 .left)))
+    (depends-gone (a .words .now) (a .d) (a .y .num)
+    (λ t. let h = live-at (unpack (a .words .now) .live) (txn (a .y .num)) t .below in omega (arith, c .if2 .left)))
 
 pub and-depends-on-spec : {M : Type 1} → statement M
 and-depends-on-spec =

@@ -13,8 +13,8 @@ use Rattle.locks_laws.specs.Bounds.{PlaceBounds, place-bounds}
 use Rattle.locks.proofs.lock.Statement.{statement}
 use Rattle.locks.proofs.lock.Tie as tie
 
-bounds : (c : tie.Start) → PlaceBounds (c .args .words .now) (c .args .p) (c .args .o)
-bounds c = place-bounds (c .args .words .now) (c .args .x) (c .args .p) (c .args .o) (c .pre)
+bounds : (c : tie.Start) → PlaceBounds (c .args .words .now) (c .args .p) (c .args .o .num)
+bounds c = place-bounds (c .args .words .now) (c .args .x .num) (c .args .p) (c .args .o .num) (c .pre)
 
 -- from where the dependencies are read
 abbrev entry : tie.After-and-depends-on-arg → tie.Start
@@ -92,7 +92,7 @@ returns c =
     let a = e .args in
     let ws = a .words .now in
     let latest = c .before .before .before .before .latest .ensures in
-    locked-right ws (a .x) (a .p) (a .o) (e .pre)
+    locked-right ws (a .x .num) (a .p) (a .o .num) (e .pre)
     (ap (λ (v : Entry). v .value) latest)
     (c .before .before .with .ensures)
     (c .and-depends-on .ensures

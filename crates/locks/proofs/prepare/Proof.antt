@@ -18,11 +18,11 @@ use Rattle.locks_laws.specs.Bounds.{PlaceBounds, place-bounds}
 use Rattle.locks.proofs.prepare.Statement.{statement}
 use Rattle.locks.proofs.prepare.Tie as tie
 
-called : (c : tie.Start) → Called (c .args .words .now) (c .args .x) (c .args .p) (c .args .o)
+called : (c : tie.Start) → Called (c .args .words .now) (c .args .x .num) (c .args .p) (c .args .o .num)
 called c = (c .pre .0, c .pre .1, c .pre .2, c .pre .3)
 
-bounds : (c : tie.Start) → PlaceBounds (c .args .words .now) (c .args .p) (c .args .o)
-bounds c = place-bounds (c .args .words .now) (c .args .x) (c .args .p) (c .args .o) (called c)
+bounds : (c : tie.Start) → PlaceBounds (c .args .words .now) (c .args .p) (c .args .o .num)
+bounds c = place-bounds (c .args .words .now) (c .args .x .num) (c .args .p) (c .args .o .num) (called c)
 
 -- ---- where all is read and the writes begin
 
@@ -30,7 +30,7 @@ abbrev entry : tie.After-slice-known6 → tie.Start
 entry c = c .before .before .before .before .before .before .before .before
 
 abbrev was-written : tie.After-slice-known6 → Bool
-was-written c = has (word (entry c .args .words .now) (written-at + entry c .args .p)) (entry c .args .o)
+was-written c = has (word (entry c .args .words .now) (written-at + entry c .args .p)) (entry c .args .o .num)
 
 answer : (c : tie.After-slice-known6) → was-written c ≡ c .before .before .before .before .before .has .result
 answer c = sym (c .before .before .before .before .before .has .ensures)
@@ -38,11 +38,11 @@ answer c = sym (c .before .before .before .before .before .has .ensures)
 taken : (c : tie.Then1) → T (was-written (c .before))
 taken c = from-true (was-written (c .before)) (answer (c .before) ∙ c .if1 .taken)
 
-room : (c : tie.Then1) → chain-end (entry (c .before) .args .words .now) (entry (c .before) .args .o) < chain-room
+room : (c : tie.Then1) → chain-end (entry (c .before) .args .words .now) (entry (c .before) .args .o .num) < chain-room
 room c =
     let e = entry (c .before) in
     let a = e .args in
-    room-left (a .words .now) (a .x) (a .p) (a .o) (called e) (taken c) (e .pre .4)
+    room-left (a .words .now) (a .x .num) (a .p) (a .o .num) (called e) (taken c) (e .pre .4)
 
 add-has : tie.Need-add-has
 add-has c = omega (arith, bounds (c .before))
@@ -169,7 +169,7 @@ returns c =
     let e = entry (c .before) in
     let a = e .args in
     rw (c .before .before .before .before .with .ensures)
-    (queued-right (a .words .now) (a .x) (a .p) (a .o) (called e) (taken c) (e .pre .4))
+    (queued-right (a .words .now) (a .x .num) (a .p) (a .o .num) (called e) (taken c) (e .pre .4))
 
 same-length-2 : tie.Need-same-length-2
 same-length-2 c = search needs
@@ -179,7 +179,7 @@ returns-2 c =
     let e = entry (c .before) in
     let a = e .args in
     rw (c .before .before .before .before .with .ensures)
-    (freed-right (a .words .now) (a .x) (a .p) (a .o) (called e)
+    (freed-right (a .words .now) (a .x .num) (a .p) (a .o .num) (called e)
     (λ t. false≢true (sym (answer (c .before) ∙ c .if1 .left) ∙ is-true (was-written (c .before)) t)))
 
 pub prepare-spec : {M : Type 1} → statement M

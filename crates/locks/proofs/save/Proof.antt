@@ -10,8 +10,8 @@ use Rattle.locks_laws.specs.Bounds.{ObjectBounds, object-bounds}
 use Rattle.locks.proofs.save.Statement.{statement}
 use Rattle.locks.proofs.save.Tie as tie
 
-bounds : (c : tie.Start) → ObjectBounds (c .args .words .now) (c .args .o)
-bounds c = object-bounds (c .args .words .now) (c .pre .0) (c .args .o) (c .pre .1)
+bounds : (c : tie.Start) → ObjectBounds (c .args .words .now) (c .args .o .num)
+bounds c = object-bounds (c .args .words .now) (c .pre .0) (c .args .o .num) (c .pre .1)
 
 add-saved : tie.Need-add-saved
 add-saved c = search needs
@@ -59,8 +59,8 @@ returns : tie.Need-returns
 returns c =
     let entry : tie.Start = c .before .before in
     let ws = entry .args .words .now in (
-      shown ws (entry .pre .0) .column queued-count (entry .args .o) (entry .pre .1),
-      saved-right ws (entry .pre .0) (entry .args .o) (entry .pre .1),
+      shown ws (entry .pre .0) .column queued-count (entry .args .o .num) (entry .pre .1),
+      saved-right ws (entry .pre .0) (entry .args .o .num) (entry .pre .1),
     )
 
 pub save-spec : {M : Type 1} → statement M

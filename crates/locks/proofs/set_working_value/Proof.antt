@@ -8,8 +8,8 @@ use Rattle.locks_laws.specs.Bounds.{PlaceBounds, place-bounds}
 use Rattle.locks.proofs.set_working_value.Statement.{statement}
 use Rattle.locks.proofs.set_working_value.Tie as tie
 
-bounds : (c : tie.Start) → PlaceBounds (c .args .words .now) (c .args .p) (c .args .o)
-bounds c = place-bounds (c .args .words .now) (c .args .x) (c .args .p) (c .args .o) (c .pre)
+bounds : (c : tie.Start) → PlaceBounds (c .args .words .now) (c .args .p) (c .args .o .num)
+bounds c = place-bounds (c .args .words .now) (c .args .x .num) (c .args .p) (c .args .o .num) (c .pre)
 
 add-with : tie.Need-add-with
 add-with c = omega (arith, bounds (c .before))
@@ -48,7 +48,7 @@ returns : tie.Need-returns
 returns c =
     let entry : tie.Start = c .before .before .before in
     let a = entry .args in
-    rw (c .with .ensures) (worked-right (a .words .now) (a .x) (a .p) (a .o) (entry .pre) (a .v))
+    rw (c .with .ensures) (worked-right (a .words .now) (a .x .num) (a .p) (a .o .num) (entry .pre) (a .v))
 
 pub set-working-value-spec : {M : Type 1} → statement M
 set-working-value-spec =

@@ -42,8 +42,8 @@ lowest-requires c κs = search needs
 cast-p : tie.Need-cast-p
 cast-p c = search needs
 
-slice-read-number : tie.Need-slice-read-number
-slice-read-number c = omega (arith, bounds c)
+slice-read-words : tie.Need-slice-read-words
+slice-read-words c = omega (arith, bounds c)
 
 add-words : tie.Need-add-words
 add-words c = search needs
@@ -55,16 +55,18 @@ slice-write-words : tie.Need-slice-write-words
 slice-write-words c = omega (arith, bounds c, lowest-free c)
 
 add-words-2 : tie.Need-add-words-2
-add-words-2 c = omega (arith, bounds c)
+add-words-2 c = omega (arith, bounds (c .before))
 
 slice-write-words-2 : tie.Need-slice-write-words-2
-slice-write-words-2 c = simp length-set (omega (arith, bounds c))
+slice-write-words-2 c = simp length-set (omega (arith, bounds (c .before)))
 
 same-length : tie.Need-same-length
 same-length c = search needs
 
 returns : tie.Need-returns
-returns c = rw (lowest-free c) (started-right (words c) (entry c .pre .0) (entry c .pre .2))
+returns c =
+    let found = c .before in
+    rw (lowest-free found) (started-right (words found) (entry found .pre .0) (entry found .pre .2))
 
 pub start-spec : {M : Type 1} → statement M
 start-spec =
@@ -73,7 +75,7 @@ start-spec =
     free-places-requires
     lowest-requires
     cast-p
-    slice-read-number
+    slice-read-words
     add-words
     mul-words
     slice-write-words

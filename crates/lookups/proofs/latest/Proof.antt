@@ -15,8 +15,8 @@ use Rattle.lookups.proofs.latest.Tie as tie
 fits : (c : tie.Start) → Fits (c .args .words .now)
 fits c = fitting (c .args .words .now) (c .pre .0)
 
-count-fits : (c : tie.Start) → chain-count-in (c .args .words .now) (c .args .o) ≤ chain-room
-count-fits c = fits c .chain-count-fits (c .args .o) (c .pre .1)
+count-fits : (c : tie.Start) → chain-count-in (c .args .words .now) (c .args .o .num) ≤ chain-room
+count-fits c = fits c .chain-count-fits (c .args .o .num) (c .pre .1)
 
 add-count : tie.Need-add-count
 add-count c = search needs
@@ -70,13 +70,13 @@ returns : tie.Need-returns
 returns c =
     let start : tie.Start = c .before .before .before .before .before in
     c .entry-at .ensures
-    ∙ latest-stable (start .args .words .now) (fits start) (start .args .o) (start .pre .1) (c .before .if1 .taken)
+    ∙ latest-stable (start .args .words .now) (fits start) (start .args .o .num) (start .pre .1) (c .before .if1 .taken)
 
 returns-2 : tie.Need-returns-2
 returns-2 c =
     let start : tie.Start = c .before .before .before .before .before in
     c .entry-at2 .ensures
-    ∙ latest-chained (start .args .words .now) (fits start) (start .args .o) (start .pre .1) (c .before .if1 .left)
+    ∙ latest-chained (start .args .words .now) (fits start) (start .args .o .num) (start .pre .1) (c .before .if1 .left)
 
 pub latest-spec : {M : Type 1} → statement M
 latest-spec =
