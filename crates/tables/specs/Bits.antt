@@ -1,10 +1,13 @@
--- Sets as numbers under the code's `&`: what it holds, and when it leaves a set as it is.
+-- Words under the code's `&` and `|`: what a set holds that `&` gives, when `&` leaves a set as it is, and when `|` of
+-- words is 0.
 -- Rests on the rules' Sets and on basics. Assumes nothing.
 use mathlib.Core.Path.{_≡_, refl, ap, sym, _∙_, subst}
 use mathlib.Core.Bool.{_&&_}
-use Prim.Native.Nat.{ℕ, zero, suc, _/_, _%_, _^_, _<_, min}
+use mathlib.Core.Logic.{_↔_}
+use Prim.Native.Nat.{ℕ, zero, suc, _+_, _/_, _%_, _^_, _≤_, _<_, min}
 use native.Mathlib.Omega.{arith}
-use lib.Bits.{bitAnd, and-step, and-shr, and-lt}
+use borrow.Author.Count.{below-more}
+use lib.Bits.{bitAnd, bitOr, and-step, and-shr, and-lt, and-le-l, and-le-r, or-add-and}
 use lib.Dec.{T, eqb}
 use Rattle.rules.specs.Sets.{width, has}
 use Rattle.basics.specs.Logic.{and-says, same-test}
@@ -42,3 +45,28 @@ within-and s r h k f =
     (λ i l.
     has-and s r i
     ∙ same-test (has s i && has r i) (has s i) (λ t. and-says (has s i) (has r i) .0 t .0) (λ t. and-says (has s i) (has r i) .1 (t, f i l t)))
+
+-- ---- words that are gathered by `|`
+
+-- `|` of two words is 0 exactly where both are
+pub or-zero : (a b : ℕ) → (bitOr a b ≡ 0) ↔ ((a ≡ 0) × (b ≡ 0))
+or-zero a b = (
+  λ e. (omega (arith, or-add-and a b, and-le-r a b), omega (arith, or-add-and a b, and-le-l a b)),
+  λ z. omega (arith, or-add-and a b, and-le-l a b, z .0, z .1),
+)
+
+-- of the words from n on and below i: what is gathered is 0 exactly where each of them is
+abbrev pub Gathers : (ℕ → ℕ) → ℕ → ℕ → ℕ → Type 0
+Gathers w n i all = (all ≡ 0) ↔ ((k : ℕ) → k < i → n ≤ k → w k ≡ 0)
+
+module _ (w : ℕ → ℕ) (n : ℕ) where
+  pub gathers-none : Gathers w n n 0
+  gathers-none = (λ e k h g. absurd (omega arith), λ f. refl)
+
+  pub gathers-more : (i all : ℕ) → n ≤ i → Gathers w n i all → Gathers w n (i + 1) (bitOr all (w i))
+  gathers-more i all h g = (
+    λ e.
+        let z = or-zero all (w i) .0 e in
+        below-more (λ k. n ≤ k → w k ≡ 0) i (g .0 (z .0)) (λ l. z .1),
+    λ f. or-zero all (w i) .1 (g .1 (λ k l. f k (omega arith)), f i (omega arith) h),
+  )

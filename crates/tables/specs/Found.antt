@@ -16,7 +16,7 @@ use Rattle.basics.specs.Ranges.{length-row, getD-row, lowest-same}
 use Rattle.words_laws.specs.Unpacked.{place-read}
 use Rattle.sound_laws.specs.Live.{live-at, at-live}
 use Rattle.sound_laws.specs.Logged.{Names, logged-at, names-logged, number-positive}
-use Rattle.tables.specs.Highest.{highest-le, highest-passes, some-highest}
+use Rattle.tables.specs.Highest.{highest-le, highest-passes, highest-none, some-highest}
 use Rattle.tables.specs.Index.{key, names}
 use Rattle.tables.specs.Test.{count-in, number-in, seat-in, RecordsTest}
 use Rattle.tables.specs.Seats.{has-seat, seat-somebody, seat-of-somebody, seat-there}
@@ -71,12 +71,20 @@ module _ (ws : List ℕ) where
         names-logged (log-in ws) (txn x) (number-in ws x - 1) (names-at x (number-in ws x - 1) (n .0) (n .1)),
   )
 
+  -- no two records name one transaction
+  pub other-records : RecordsTest ws → (i j : ℕ) → i < j → j < count-in ws → key ws i ≡ key ws j → ⊥
+  other-records r i j h k e = highest-none (names ws (key ws j)) j (r j k .first) i h (equal-says (key ws i) (key ws j) .1 e)
+
   -- where no transaction is logged twice, the log's number is the words'
   pub number-is : (x : ℕ) → RecordsTest ws → T (is-logged (log-in ws) (txn x)) → log-number (log-in ws) (txn x) .num ≡ number-in ws x
   number-is x r t =
       let i = log-number (log-in ws) (txn x) .num - 1 in
       let n = named-key x i (logged-at (log-in ws) (txn x) t) in
-      let e : number-in ws x ≡ i + 1 = sym (ap (number-in ws) (n .1)) ∙ r i (n .0) .last in
+      let k = number-in ws x - 1 in
+      let up = key-number x i (n .0) (n .1) in
+      let m = number-names x up in
+      let f : i < k → ⊥ = λ h. other-records r i k h (m .0) (n .1 ∙ sym (m .1)) in
+      let g : k < i → ⊥ = λ h. other-records r k i h (n .0) (m .1 ∙ sym (n .1)) in
       omega (arith, number-positive (log-in ws) (txn x))
 
 -- ---- the places

@@ -11,6 +11,7 @@ use Rattle.rules.specs.Sets.{has}
 use Rattle.rules.specs.Tables.{Txn, Live, Entry, txn, nobody, chain-room, place-count, is-live, sets-of, log-number, is-logged, chain, latest}
 use Rattle.rules.specs.Sound.{depends-on}
 use Rattle.rules.specs.Layout.{stable-writer-at, stable-number-at, holder-at, saved-count-at, queued-count-at, depends-at, no-entry, word, entry-in, live-in, object-in, version-in}
+use Rattle.basics.specs.Logic.{is-true, is-false, from-true}
 use Rattle.basics.specs.Ranges.{getD-row, same-or-other}
 use Rattle.basics.specs.Lists.{All-at}
 use Rattle.sound_laws.specs.Means.{Held, Accounted, Linked, LoggedFirst, Named, ObjectOk}
@@ -116,7 +117,7 @@ module _ (ws : List ℕ) (o : ℕ) where
           ⊎-elim
           (λ e.
           let l = entry j h .live e in
-          inr (live-says ws x .1 (l .live), has-set (λ v. v .written) x o (l .live) (l .written), has-set (λ v. v .prepared) x o (l .live) (l .prepared)))
+          inr (live-says ws x .1 (l .live), has-set (λ v. v .written) x o (l .live) (l .in-set), has-set (λ v. v .prepared) x o (l .live) (from-true _ (l .as-asked))))
           (λ d. inl (logged-of x (omega arith)))
           (same-or-other (number-in ws x) 0)
 
@@ -148,8 +149,8 @@ module _ (ws : List ℕ) (o : ℕ) where
             working-fits = values _;
             entries-fit = each-entry ws o (t .fits) (λ e. e .value < 2 ^ 64) (λ j h. values _);
             holder-live = λ k. live-says ws x .1 (held k .live);
-            holder-accessed = λ k. has-set (λ l. l .accessed) x o (held k .live) (held k .accessed);
-            holder-unprepared = λ k u. held k .unprepared (set-has (λ l. l .prepared) x o (held k .live) u);
+            holder-accessed = λ k. has-set (λ l. l .accessed) x o (held k .live) (held k .in-set);
+            holder-unprepared = λ k u. subst T (held k .as-asked) (set-has (λ l. l .prepared) x o (held k .live) u);
             holder-depends = λ k u.
                 let w = latest-seat (length-in ws o) refl u in
                 subst (λ (y : Txn). T (depends-on (places-in ws) (txn x) y)) (sym (w .1))
@@ -239,8 +240,8 @@ module _ (ws : List ℕ) (o : ℕ) where
           let s = live-says ws x .0 (a .0) in
           record {
             live = s;
-            written = set-has (λ l. l .written) x o s (a .1);
-            prepared = set-has (λ l. l .prepared) x o s (a .2);
+            in-set = set-has (λ l. l .written) x o s (a .1);
+            as-asked = is-true _ (set-has (λ l. l .prepared) x o s (a .2));
             linked = linked-test j h s;
           })
           (of-entry ws o fits (Accounted (places-in ws) (log-in ws) o) (k .accounted) j h)
@@ -278,8 +279,8 @@ module _ (ws : List ℕ) (o : ℕ) where
           let s = live-says ws x .0 (k .holder-live d) in
           record {
             live = s;
-            accessed = set-has (λ l. l .accessed) x o s (k .holder-accessed d);
-            unprepared = λ u. k .holder-unprepared d (has-set (λ l. l .prepared) x o s u);
+            in-set = set-has (λ l. l .accessed) x o s (k .holder-accessed d);
+            as-asked = is-false _ (λ u. k .holder-unprepared d (has-set (λ l. l .prepared) x o s u));
             linked = last-test d (length-in ws o) refl s;
           }
 

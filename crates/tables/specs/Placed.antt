@@ -3,7 +3,7 @@
 use mathlib.Core.Path.{_≡_, refl, ap, sym, _∙_, subst}
 use mathlib.Core.Logic.{⊎-elim}
 use mathlib.Core.List.{List}
-use Prim.Native.Nat.{ℕ, _+_, _-_, _^_, _≤_, _<_}
+use Prim.Native.Nat.{ℕ, _+_, _^_, _≤_, _<_}
 use native.Mathlib.Omega.{arith}
 use lib.Bits.{and-le-r}
 use lib.Dec.{T, eqb}
@@ -19,11 +19,11 @@ use Rattle.words_laws.specs.Unpacked.{place-read}
 use Rattle.sound_laws.specs.Means.{Distinct, Given, LogOk, PlaceOk}
 use Rattle.sound_laws.specs.Live.{at-live}
 use Rattle.tables.specs.Highest.{none-highest}
-use Rattle.tables.specs.Index.{key, names}
-use Rattle.tables.specs.Test.{count-in, number-in, used-in, RecordsTest, FreeTest, UsedTest, PlaceTest, PlacesTest, Unlogged}
+use Rattle.tables.specs.Index.{key, names, number-among}
+use Rattle.tables.specs.Test.{count-in, used-in, RecordsTest, FreeTest, UsedTest, PlaceTest, PlacesTest, Unlogged}
 use Rattle.tables.specs.Seats.{has-seat, is-used, seat-somebody, seat-found, not-both}
 use Rattle.tables.specs.Bits.{and-within, within-and}
-use Rattle.tables.specs.Found.{log-in, places-in, number-names, key-number, live-says}
+use Rattle.tables.specs.Found.{log-in, places-in, key-number, other-records, live-says}
 use Rattle.tables.specs.At.{at-All, Distinct-at, at-Distinct}
 
 -- ---- the log
@@ -49,10 +49,6 @@ module _ (ws : List ℕ) where
   of-record : (P : Txn → Type 0) → All P (log-in ws) → (i : ℕ) → i < count-in ws → P (txn (key ws i))
   of-record P a i h = subst P (record-read i h) (All-at P (log-in ws) i nobody a (rw size h))
 
-  -- records that are each the last to name their transaction name other ones
-  pub other-records : RecordsTest ws → (i j : ℕ) → i < j → j < count-in ws → key ws i ≡ key ws j → ⊥
-  other-records r i j h k e = omega (arith, r i (omega arith) .last, r j k .last, ap (number-in ws) e)
-
   -- no transaction of a place is logged
   pub unlogged-places : PlacesTest ws → Unlogged ws
   unlogged-places t p h d = t p h .used d .unlogged
@@ -66,7 +62,7 @@ module _ (ws : List ℕ) where
             (λ i j h k e.
             let m : j < count-in ws = omega (arith, size) in
             let l : i < count-in ws = omega arith in
-            other-records r i j h m
+            other-records ws r i j h m
             (ap (λ (x : Txn). x .num) (sym (record-read i l)) ∙ e ∙ ap (λ (x : Txn). x .num) (record-read j m)));
         given = each-record (Given next-in) (λ i h. (r i h .low, r i h .high));
         not-live =
@@ -74,24 +70,20 @@ module _ (ws : List ℕ) where
             (λ i h u. not-both ws (unlogged-places t) (key ws i) (key-number ws (key ws i) i h refl) (live-says ws (key ws i) .0 u));
       }
 
-  -- of distinct records each is the last to name its transaction
-  last-record : Distinct (log-in ws) → (i : ℕ) → i < count-in ws → number-in ws (key ws i) ≡ i + 1
-  last-record d i h =
-      let n = number-in ws (key ws i) in
-      let up = key-number ws (key ws i) i h refl in
-      let m = number-names ws (key ws i) up in
-      let differ : (a b : ℕ) → a < b → b < count-in ws → key ws a ≡ key ws b → ⊥ =
-      λ a b g k e.
-      Distinct-at nobody (log-in ws) d a b g (rw size k)
-      (ap (λ (x : Txn). x .num) (record-read a (omega arith)) ∙ e ∙ ap (λ (x : Txn). x .num) (sym (record-read b k))) in
-      let f : i < n - 1 → ⊥ = λ g. differ i (n - 1) g (m .0) (sym (m .1)) in
-      let g : n - 1 < i → ⊥ = λ g. differ (n - 1) i g h (m .1) in
-      omega arith
+  -- of distinct records each is the first to name its transaction
+  first-record : Distinct (log-in ws) → (i : ℕ) → i < count-in ws → number-among ws i (key ws i) ≡ 0
+  first-record d i h =
+      none-highest (names ws (key ws i)) i
+      (λ j k t.
+      Distinct-at nobody (log-in ws) d j i k (rw size h)
+      (ap (λ (x : Txn). x .num) (record-read j (omega arith))
+      ∙ equal-says (key ws j) (key ws i) .0 t
+      ∙ ap (λ (x : Txn). x .num) (sym (record-read i h))))
 
   pub records-test : LogOk next-in (log-in ws) (places-in ws) → RecordsTest ws
   records-test k i h =
       let g = of-record (Given next-in) (k .given) i h in
-      record { low = g .0; high = g .1; last = last-record (k .once) i h }
+      record { low = g .0; high = g .1; first = first-record (k .once) i h }
 
   -- ---- the places
 

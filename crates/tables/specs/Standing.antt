@@ -1,5 +1,5 @@
 -- Where a transaction stands, as the code carries it: its log number and its place.
--- Rests on the rules' Layout, on Tells, Test and Seats. Assumes nothing.
+-- Rests on the rules' Layout, on calls, Tells, Test and Seats. Assumes nothing.
 use mathlib.Core.Path.{_≡_, refl, ap, sym, _∙_, subst}
 use mathlib.Core.Bool.{Bool}
 use mathlib.Core.List.{List}
@@ -9,6 +9,7 @@ use native.Mathlib.Omega.{arith}
 use lib.ListN.{length}
 use Rattle.rules.specs.Tables.{object-count, place-count, chain-room}
 use Rattle.rules.specs.Layout.{stable-number-at, saved-count-at, word-count, word}
+use Rattle.calls.specs.declared.Lsn.{Lsn}
 use Rattle.tables.specs.declared.objects.Stand.{Stand}
 use Rattle.tables.specs.Test.{number-in, seat-in, writer-in, number-before, seat-before, Parted, OtherWriter, LoggedTest, LiveTest, EntryTest, EntriesTest, HolderTest, ChainTest}
 use Rattle.tables.specs.Tells.{Tells, tells-as}
@@ -16,12 +17,12 @@ use Rattle.tables.specs.Seats.{seat-le, not-both}
 
 -- x stands so
 pub record Standing (ws : List ℕ) (x : ℕ) (s : Stand) : Type 0 where
-  pub number : s .number ≡ number-in ws x
+  pub number : s .number .num ≡ number-in ws x
   pub seat : s .seat ≡ seat-in ws x
 
 -- what stands before entry j of object o stands so
 pub record StandingBefore (ws : List ℕ) (o j : ℕ) (s : Stand) : Type 0 where
-  pub number : s .number ≡ number-before ws o j
+  pub number : s .number .num ≡ number-before ws o j
   pub seat : s .seat ≡ seat-before ws o j
 
 -- an entry stands before the next
@@ -41,7 +42,7 @@ pub record AtEntry (ws : List ℕ) (o j : ℕ) (last here : Stand) : Type 0 wher
   pub writer : Standing ws (writer-in ws o j) here
 
 -- the stable version stands before the first entry
-pub stands-first : (ws : List ℕ) (o number : ℕ) → number ≡ word ws (stable-number-at + o)
+pub stands-first : (ws : List ℕ) (o : ℕ) (number : Lsn) → number .num ≡ word ws (stable-number-at + o)
     → StandingBefore ws o 0 (record { number = number; seat = place-count })
 stands-first ws o number e = record { number = e; seat = refl }
 
@@ -61,16 +62,16 @@ module _
     (other : OtherWriter ws o j)
     (answer : Bool)
   where
-    pub entry-logged : 0 < here .number → Tells answer (LoggedTest j (word ws (saved-count-at + o)) (last .number) (here .number))
+    pub entry-logged : 0 < here .number .num → Tells answer (LoggedTest j (word ws (saved-count-at + o)) (last .number .num) (here .number .num))
         → Tells answer (EntryTest ws o j)
     entry-logged up t =
         tells-as answer
         (subst (λ (n : ℕ). Tells answer (LoggedTest j (word ws (saved-count-at + o)) n (number-in ws (writer-in ws o j)))) (b .number)
-        (subst (λ (n : ℕ). Tells answer (LoggedTest j (word ws (saved-count-at + o)) (last .number) n)) (h .number) t))
+        (subst (λ (n : ℕ). Tells answer (LoggedTest j (word ws (saved-count-at + o)) (last .number .num) n)) (h .number) t))
         (λ l. record { other = other; logged = λ k. l; live = λ z. absurd (omega (arith, h .number)) })
         (λ e. e .logged (omega (arith, h .number)))
 
-    pub entry-live : here .number ≤ 0 → Tells answer (LiveTest ws o (last .seat) (here .seat)) → Tells answer (EntryTest ws o j)
+    pub entry-live : here .number .num ≤ 0 → Tells answer (LiveTest ws o (last .seat) (here .seat)) → Tells answer (EntryTest ws o j)
     entry-live down t =
         tells-as answer
         (subst (λ (n : ℕ). Tells answer (LiveTest ws o n (seat-in ws (writer-in ws o j)))) (b .seat)

@@ -1,8 +1,8 @@
 -- What the code tests, word by word: of a record, of a place, of an object and its chain's entries. Told.antt says that
 -- words which pass are the sound ones.
--- Rests on the rules' Layout and on Index.
+-- Rests on the rules' Layout, on Tells and on Index.
 use mathlib.Core.Path.{_≡_}
-use mathlib.Core.Bool.{not, cond}
+use mathlib.Core.Bool.{Bool, true, false, not, cond}
 use mathlib.Core.List.{List}
 use Prim.Native.Nat.{ℕ, zero, suc, _+_, _*_, _^_, _≤_, _<_}
 use lib.Bits.{bitAnd}
@@ -12,6 +12,7 @@ use Rattle.rules.specs.Tests.{lowest}
 use Rattle.rules.specs.Sets.{width, has, collect}
 use Rattle.rules.specs.Tables.{chain-room, log-room, place-count, object-count, last-number}
 use Rattle.rules.specs.Layout.{next-at, log-count-at, number-at, accessed-at, written-at, prepared-at, depends-at, stable-value-at, stable-writer-at, stable-number-at, holder-at, working-at, saved-count-at, queued-count-at, chain-value-at, chain-writer-at, word-count, word}
+use Rattle.tables.specs.Tells.{Tells}
 use Rattle.tables.specs.Index.{key, number-among, Index}
 
 -- ---- the log
@@ -24,11 +25,11 @@ count-in ws = word ws log-count-at
 abbrev pub number-in : List ℕ → ℕ → ℕ
 number-in ws x = number-among ws (count-in ws) x
 
--- of record i + 1: its transaction was given out, and no later record names it
+-- of record i + 1: its transaction was given out, and no earlier record names it
 pub record RecordTest (ws : List ℕ) (i : ℕ) : Type 0 where
   pub low : 1 ≤ key ws i
   pub high : key ws i < word ws next-at
-  pub last : number-in ws (key ws i) ≡ i + 1
+  pub first : number-among ws i (key ws i) ≡ 0
 
 abbrev pub RecordsTest : List ℕ → Type 0
 RecordsTest ws = (i : ℕ) → i < count-in ws → RecordTest ws i
@@ -113,13 +114,21 @@ pub record LoggedTest (j saved before here : ℕ) : Type 0 where
 abbrev pub Linked : List ℕ → ℕ → ℕ → Type 0
 Linked ws before here = before < place-count → T (has (word ws (depends-at + here)) before)
 
--- of an entry that is not logged, by places: it is live, wrote and prepared the object, and depends on what stands
--- before it if that is live
-pub record LiveTest (ws : List ℕ) (o before here : ℕ) : Type 0 where
+-- of a transaction that is not logged, by places: it is live, has the object in a set, has prepared it or not, as asked,
+-- and depends on what stands before it if that is live
+pub record SeatTest (ws : List ℕ) (set : ℕ) (prepared : Bool) (o before here : ℕ) : Type 0 where
   pub live : here < place-count
-  pub written : T (has (word ws (written-at + here)) o)
-  pub prepared : T (has (word ws (prepared-at + here)) o)
+  pub in-set : T (has (word ws (set + here)) o)
+  pub as-asked : has (word ws (prepared-at + here)) o ≡ prepared
   pub linked : Linked ws before here
+
+-- the writer of an entry wrote and prepared the object
+abbrev pub LiveTest : List ℕ → ℕ → ℕ → ℕ → Type 0
+LiveTest ws = SeatTest ws written-at true
+
+-- a holder has accessed and not prepared it
+abbrev pub HeldTest : List ℕ → ℕ → ℕ → ℕ → Type 0
+HeldTest ws = SeatTest ws accessed-at false
 
 -- the writer of entry j is none of the earlier ones
 abbrev pub OtherWriter : List ℕ → ℕ → ℕ → Type 0
@@ -145,13 +154,7 @@ pub record StableTest (ws : List ℕ) (o : ℕ) : Type 0 where
   pub named : 0 < word ws (stable-number-at + o)
       → (word ws (stable-number-at + o) ≤ count-in ws) × (word ws (word ws (stable-number-at + o) + 1) ≡ word ws (stable-writer-at + o))
 
--- of a holder's place: the last entry's place comes along
-pub record HeldTest (ws : List ℕ) (o last here : ℕ) : Type 0 where
-  pub live : here < place-count
-  pub accessed : T (has (word ws (accessed-at + here)) o)
-  pub unprepared : T (has (word ws (prepared-at + here)) o) → ⊥
-  pub linked : Linked ws last here
-
+-- of the holder: the last entry's place comes along
 pub record HolderTest (ws : List ℕ) (o last : ℕ) : Type 0 where
   pub free : word ws (holder-at + o) ≡ 0 → word ws (working-at + o) ≡ 0
   pub held : (word ws (holder-at + o) ≡ 0 → ⊥) → HeldTest ws o last (seat-in ws (word ws (holder-at + o)))
@@ -188,19 +191,24 @@ pub record RestTest (ws : List ℕ) : Type 0 where
 
 -- ---- what the functions ask of their arguments
 
--- the right count of words, and the index of the log
-pub record Indexed (ws head before : List ℕ) : Type 0 where
+-- the right count of words, and the index of the first n records
+pub record Indexed (ws : List ℕ) (n : ℕ) (head before : List ℕ) : Type 0 where
   pub right-length : length ws ≡ word-count
-  pub count-fits : count-in ws ≤ log-room
-  pub index : Index ws (count-in ws) head before
+  pub count-fits : n ≤ log-room
+  pub index : Index ws n head before
+
+-- a test's answer, and where it is true the index of the first n records
+pub record Indexing (answer : Bool) (Fact : Type 0) (ws : List ℕ) (n : ℕ) (head before : List ℕ) : Type 0 where
+  pub tells : Tells answer Fact
+  pub indexed : T answer → Indexed ws n head before
 
 -- and no transaction of a place is logged
 pub record Parted (ws head before : List ℕ) : Type 0 where
-  pub indexed : Indexed ws head before
+  pub indexed : Indexed ws (count-in ws) head before
   pub unlogged : Unlogged ws
 
 -- the set of used places, and a place
 pub record AtPlace (ws head before : List ℕ) (used p : ℕ) : Type 0 where
-  pub indexed : Indexed ws head before
+  pub indexed : Indexed ws (count-in ws) head before
   pub used-set : used ≡ used-in ws
   pub below : p < place-count

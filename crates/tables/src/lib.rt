@@ -18,8 +18,7 @@ fn rest_sound(words: &[u64]) -> bool
     let mut head = [0usize; 1024];
     let mut before = [0usize; 512];
     let count = words[layout::LOG_COUNT] as usize;
-    index::build(words, &mut head, &mut before, count);
-    if !log::records_sound(words, &head, &before, count) {
+    if !log::records_sound(words, &mut head, &mut before, count) {
         return false;
     }
     if !log::past_zero(words, count) {

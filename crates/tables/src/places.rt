@@ -7,9 +7,10 @@ ghost use Rattle.rules.specs.Sets.{has};
 ghost use Rattle.rules.specs.Tables.{place-count};
 ghost use Rattle.rules.specs.Layout.{word-count};
 ghost use Rattle.tables.specs.Tells.{Tells};
-ghost use Rattle.tables.specs.Test.{seat-in, used-in, SetsTest, FreeTest, UsedTest, PlaceTest, PlacesTest, Indexed, AtPlace};
+ghost use Rattle.tables.specs.Test.{count-in, seat-in, used-in, SetsTest, FreeTest, UsedTest, PlaceTest, PlacesTest, Indexed, AtPlace};
 use crate::index;
 use crate::layout;
+use calls::Txn;
 
 // Whether a set has a member.
 pub fn member(set: u64, i: usize) -> bool
@@ -20,16 +21,16 @@ pub fn member(set: u64, i: usize) -> bool
 }
 
 // The lowest place of a transaction, or 32 where it has none.
-pub fn seat(words: &[u64], x: u64) -> usize
+pub fn seat(words: &[u64], x: Txn) -> usize
     requires { ⌜ length (now words) ≡ word-count ⌝ }
-    ensures { λ r. ⌜ r ≡ seat-in (now (words .entry)) x ⌝ }
+    ensures { λ r. ⌜ r ≡ seat-in (now (words .entry)) (x .num) ⌝ }
 {
-    if x == 0 {
+    if x.num == 0 {
         return layout::PLACES;
     }
     let mut p = 0;
     while p < layout::PLACES {
-        if words[layout::NUMBER + p] == x {
+        if words[layout::NUMBER + p] == x.num {
             return p;
         }
         p += 1;
@@ -107,14 +108,17 @@ fn used_sound(
     requires { ⌜ AtPlace (now words) (now head) (now before) used p ⌝ }
     ensures { λ r. ⌜ Tells r (UsedTest (now (words .entry)) p) ⌝ }
 {
-    let x = words[layout::NUMBER + p];
-    if words[layout::NEXT] <= x {
+    let x = Txn {
+        num: words[layout::NUMBER + p],
+    };
+    if words[layout::NEXT] <= x.num {
         return false;
     }
     if seat(words, x) != p {
         return false;
     }
-    if index::find(words, head, before, x) != 0 {
+    let logged = index::number(words, head, before, x);
+    if logged.num != 0 {
         return false;
     }
     if !sets_sound(
@@ -149,7 +153,7 @@ fn place_sound(
 
 // Whether every place is sound.
 pub fn places_sound(words: &[u64], head: &index::Heads, before: &index::Befores) -> bool
-    requires { ⌜ Indexed (now words) (now head) (now before) ⌝ }
+    requires { ⌜ Indexed (now words) (count-in (now words)) (now head) (now before) ⌝ }
     ensures { λ r. ⌜ Tells r (PlacesTest (now (words .entry))) ⌝ }
 {
     let used = used_places(words);

@@ -1,29 +1,35 @@
--- `tables::rest_sound` meets its contract. The index is built of an empty one, and each test is a field of what it
+-- `tables::rest_sound` meets its contract. The index starts as one of no records, and each test is a field of what it
 -- tells. Assumes nothing.
 use native.Mathlib.Omega.{arith}
 use borrow.Author.Needs.{needs}
 use Rattle.tables.specs.Index.{no-records}
 use Rattle.tables.specs.Placed.{unlogged-places}
-use Rattle.tables.specs.Tells.{holds-so, fails-so, of-not-true, of-not-false}
+use Rattle.tables.specs.Tells.{holds-so, fails-so, passed, of-not-true, of-not-false}
 use Rattle.tables.proofs.rest_sound.Statement.{statement}
 use Rattle.tables.proofs.rest_sound.Tie as tie
 
-build-requires : tie.Need-build-requires
-build-requires c κs = (omega arith, omega arith, no-records _)
+records-sound-requires : tie.Need-records-sound-requires
+records-sound-requires c κs = (record { right-length = omega arith; count-fits = omega arith; index = no-records _ }, search needs, search needs)
 
 returns : tie.Need-returns
-returns c = fails-so λ t. of-not-true _ (c .before .records-sound .ensures) (c .if1 .taken) (t .records)
+returns c = fails-so λ t. of-not-true _ (c .before .records-sound .ensures .tells) (c .if1 .taken) (t .records)
 
 returns-2 : tie.Need-returns-2
 returns-2 c = fails-so λ t. of-not-true _ (c .before .past-zero .ensures) (c .if2 .taken) (t .past-log)
+
+places-sound-requires : tie.Need-places-sound-requires
+places-sound-requires c κs =
+    let logged = c .before .before .before .before in
+    logged .before .records-sound .ensures .indexed (passed (logged .before .records-sound .result) (logged .if1 .left))
 
 returns-3 : tie.Need-returns-3
 returns-3 c = fails-so λ t. of-not-true _ (c .before .places-sound .ensures) (c .if3 .taken) (t .places)
 
 objects-sound-requires : tie.Need-objects-sound-requires
 objects-sound-requires c κs =
+    let logged = c .before .before .before .before .before .before .before .before in
     record {
-      indexed = search needs;
+      indexed = logged .before .records-sound .ensures .indexed (passed (logged .before .records-sound .result) (logged .if1 .left));
       unlogged = unlogged-places _ (of-not-false _ (c .before .before .before .places-sound .ensures) (c .before .before .if3 .left));
     }
 
@@ -36,7 +42,7 @@ returns-5 c =
     let logged = placed .before .before .before .before in
     holds-so
     (record {
-      records = of-not-false _ (logged .before .before .before .records-sound .ensures) (logged .before .before .if1 .left);
+      records = of-not-false _ (logged .before .before .before .records-sound .ensures .tells) (logged .before .before .if1 .left);
       past-log = of-not-false _ (logged .before .past-zero .ensures) (logged .if2 .left);
       places = of-not-false _ (placed .before .places-sound .ensures) (placed .if3 .left);
       objects = of-not-false _ (c .before .objects-sound .ensures) (c .if4 .left);
@@ -47,12 +53,11 @@ rest-sound-spec =
     tie.close
     (tie.spec
     (λ c. search needs)
-    build-requires
-    (λ c κs. search needs)
+    records-sound-requires
     returns
     (λ c κs. search needs)
     returns-2
-    (λ c κs. search needs)
+    places-sound-requires
     returns-3
     objects-sound-requires
     returns-4

@@ -3,15 +3,14 @@
 -- Assumes nothing.
 use borrow.Author.Needs.{needs}
 use Rattle.tables.specs.Index.{Walk, walk-starts, walk-ends, found, not-found, falls-by-one}
-use Rattle.tables.specs.Test.{count-in}
 use Rattle.tables.proofs.index.find.Statement.{statement}
 use Rattle.tables.proofs.index.find.Tie as tie
 
 abbrev Inv-loop : tie.InvT-loop
-Inv-loop words head before x b at₀ at = Walk words (count-in words) x at
+Inv-loop words head before count x b at₀ at = Walk words count (x .num) at
 
 abbrev μ-loop : tie.MeasureT-loop
-μ-loop words head before x b at₀ at = at
+μ-loop words head before count x b at₀ at = at
 
 loop-holds : tie.Need-loop-holds Inv-loop μ-loop
 loop-holds c = search (walk-starts, needs)

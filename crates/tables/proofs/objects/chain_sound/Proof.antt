@@ -12,10 +12,10 @@ use Rattle.tables.proofs.objects.chain_sound.Statement.{statement}
 use Rattle.tables.proofs.objects.chain_sound.Tie as tie
 
 abbrev Inv-loop : tie.InvT-loop
-Inv-loop words head before o n number last₀ j₀ last j = (j ≤ n) × ((k : ℕ) → k < j → EntryTest words o k) × StandingBefore words o j last
+Inv-loop words head before o n last₀ j₀ last j = (j ≤ n) × ((k : ℕ) → k < j → EntryTest words (o .num) k) × StandingBefore words (o .num) j last
 
 abbrev μ-loop : tie.MeasureT-loop
-μ-loop words head before o n number last₀ j₀ last j = n - j
+μ-loop words head before o n last₀ j₀ last j = n - j
 
 loop-holds : tie.Need-loop-holds Inv-loop μ-loop
 loop-holds c = (omega arith, λ k h. absurd (omega arith), stands-first _ _ _ refl)
@@ -25,7 +25,7 @@ returns c = fails-so λ t. of-not-true _ (c .before .entry-sound .ensures) (c .i
 
 loop-again : tie.Need-loop-again Inv-loop μ-loop
 loop-again c =
-    let inv = c .before .before .before .before .before .loop .inv in (
+    let inv = c .before .before .before .before .before .before .loop .inv in (
       omega arith,
       below-more _ _ (inv .1) (of-not-false _ (c .before .entry-sound .ensures) (c .if1 .left)),
       stands-next _ _ _ _ (c .before .before .standing .ensures),
@@ -33,9 +33,9 @@ loop-again c =
 
 returns-2 : tie.Need-returns-2 Inv-loop μ-loop
 returns-2 c =
-    let a = c .before .before .before .before .before .args in
+    let a = c .before .before .before .before .before .before .args in
     let i = c .before .before .loop .inv in
-    chain-holder (a .words .now) (a .o) (c .before .before .loop .j) (a .n) (c .before .before .loop .last) _ (omega arith) (i .1) (i .2) (c .holder-sound .ensures)
+    chain-holder (a .words .now) (a .o .num) (c .before .before .loop .j) (a .n) (c .before .before .loop .last) _ (omega arith) (i .1) (i .2) (c .holder-sound .ensures)
 
 pub chain-sound-spec : {M : Type 1} → statement M
 chain-sound-spec =

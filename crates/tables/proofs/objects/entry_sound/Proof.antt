@@ -12,19 +12,19 @@ returns c = fails-so λ t. of-not-true _ (c .before .other-writer .ensures) (c .
 
 returns-2 : tie.Need-returns-2
 returns-2 c =
-    let s = c .before .before .before .before .before .before .before in
+    let s = c .before .before .before .before .before .before .before .before in
     let a = s .args in
-    entry-logged (a .words .now) (a .o) (a .j) (a .last) (a .here) (s .pre .before) (s .pre .writer)
-    (of-not-false _ (c .before .before .before .before .before .other-writer .ensures) (c .before .before .before .before .if1 .left))
+    entry-logged (a .words .now) (a .o .num) (a .j) (a .last) (a .here) (s .pre .before) (s .pre .writer)
+    (of-not-false _ (c .before .before .before .before .before .before .other-writer .ensures) (c .before .before .before .before .before .if1 .left))
     _ (omega arith) (c .logged-sound .ensures)
 
 returns-3 : tie.Need-returns-3
 returns-3 c =
     let s = c .before .before .before .before .before .before in
     let a = s .args in
-    entry-live (a .words .now) (a .o) (a .j) (a .last) (a .here) (s .pre .before) (s .pre .writer)
+    entry-live (a .words .now) (a .o .num) (a .j) (a .last) (a .here) (s .pre .before) (s .pre .writer)
     (of-not-false _ (c .before .before .before .before .other-writer .ensures) (c .before .before .before .if1 .left))
-    _ (omega arith) (c .live-sound .ensures)
+    _ (omega arith) (c .seat-sound .ensures)
 
 pub entry-sound-spec : {M : Type 1} → statement M
 entry-sound-spec =

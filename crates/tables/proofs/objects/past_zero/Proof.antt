@@ -1,34 +1,40 @@
--- `tables::objects::past_zero` meets its contract. The loop's invariant: the words passed are 0. Assumes nothing.
-use mathlib.Core.Path.{_≡_}
-use Prim.Native.Nat.{ℕ, _+_, _*_, _≤_, _<_, _-_}
+-- `tables::objects::past_zero` meets its contract. The loop's invariant: what is gathered is 0 exactly where the words
+-- passed are. Assumes nothing.
+use mathlib.Core.List.{List}
+use Prim.Native.Nat.{ℕ, _≤_, _-_}
 use native.Mathlib.Omega.{arith}
-use borrow.Author.Count.{below-more}
 use borrow.Author.Needs.{needs}
-use Rattle.rules.specs.Layout.{word}
-use Rattle.tables.specs.Tells.{holds-so, fails-so}
+use lib.Bits.{bitOr}
+use Rattle.tables.specs.Bits.{or-zero, Gathers, gathers-none, gathers-more}
+use Rattle.tables.specs.Test.{value-in, writer-in}
+use Rattle.tables.specs.Tells.{tells-as, tells-equal}
 use Rattle.tables.proofs.objects.past_zero.Statement.{statement}
 use Rattle.tables.proofs.objects.past_zero.Tie as tie
 
+-- the words of entry j
+abbrev both : List ℕ → ℕ → ℕ → ℕ
+both ws o j = bitOr (value-in ws o j) (writer-in ws o j)
+
 abbrev Inv-loop : tie.InvT-loop
-Inv-loop words o n j₀ j = (n ≤ j) × ((i : ℕ) → i < j → n ≤ i → (word words (898 + (8 * o + i)) ≡ 0) × (word words (1154 + (8 * o + i)) ≡ 0))
+Inv-loop words o n all₀ j₀ all j = (n ≤ j) × (j ≤ 8) × Gathers (both words (o .num)) n j all
 
 abbrev μ-loop : tie.MeasureT-loop
-μ-loop words o n j₀ j = 8 - j
+μ-loop words o n all₀ j₀ all j = 8 - j
 
 loop-holds : tie.Need-loop-holds Inv-loop μ-loop
-loop-holds c = (omega arith, λ i h k. absurd (omega arith))
-
-returns : tie.Need-returns Inv-loop μ-loop
-returns c = fails-so λ t. c .if1 .taken (t (c .before .before .before .loop .j) (omega arith) (omega arith) .0)
-
-returns-2 : tie.Need-returns-2 Inv-loop μ-loop
-returns-2 c = fails-so λ t. c .if2 .taken (t (c .before .before .before .before .before .loop .j) (omega arith) (omega arith) .1)
+loop-holds c = (omega arith, omega arith, gathers-none _ _)
 
 loop-again : tie.Need-loop-again Inv-loop μ-loop
-loop-again c = (omega arith, below-more _ _ (c .before .before .before .before .before .loop .inv .1) (λ h. (omega arith, c .if2 .left)))
+loop-again c =
+    let inv = c .before .before .before .before .before .loop .inv in
+    (omega arith, omega arith, gathers-more _ _ _ _ (inv .0) (inv .2))
 
-returns-3 : tie.Need-returns-3 Inv-loop μ-loop
-returns-3 c = holds-so λ i h k. c .before .loop .inv .1 i (omega arith) k
+returns : tie.Need-returns Inv-loop μ-loop
+returns c =
+    let gathers = c .before .loop .inv .2 in
+    tells-as _ (tells-equal _ _)
+    (λ e j h k. or-zero _ _ .0 (gathers .0 e j (omega arith) k))
+    (λ f. gathers .1 (λ j h k. or-zero _ _ .1 (f j (omega arith) k)))
 
 pub past-zero-spec : {M : Type 1} → statement M
 past-zero-spec =
@@ -42,14 +48,12 @@ past-zero-spec =
     (λ c. search needs)
     (λ c. search needs)
     (λ c. search needs)
-    returns
     (λ c. search needs)
     (λ c. search needs)
     (λ c. search needs)
     (λ c. search needs)
     (λ c. search needs)
-    returns-2
     (λ c. search needs)
     (λ c. search needs)
     loop-again
-    returns-3)
+    returns)

@@ -11,7 +11,7 @@ use Rattle.tables.proofs.places.seat.Statement.{statement}
 use Rattle.tables.proofs.places.seat.Tie as tie
 
 abbrev Inv-loop : tie.InvT-loop
-Inv-loop words x p₀ p = (p ≤ 32) × ((q : ℕ) → q < p → word words (514 + q) ≡ x → ⊥)
+Inv-loop words x p₀ p = (p ≤ 32) × ((q : ℕ) → q < p → word words (514 + q) ≡ x .num → ⊥)
 
 abbrev μ-loop : tie.MeasureT-loop
 μ-loop words x p₀ p = 32 - p
@@ -23,10 +23,10 @@ loop-holds : tie.Need-loop-holds Inv-loop μ-loop
 loop-holds c = (omega arith, λ q h. absurd (omega arith))
 
 returns-2 : tie.Need-returns-2 Inv-loop μ-loop
-returns-2 c = seat-found _ _ (c .before .before .before .before .if1 .left) _ (c .before .before .before .loop .inv .1) (c .before .before .loop-test .taken) (c .if2 .taken)
+returns-2 c = seat-found _ _ (c .before .before .before .before .before .if1 .left) _ (c .before .before .before .before .loop .inv .1) (c .before .before .before .loop-test .taken) (c .if2 .taken)
 
 loop-again : tie.Need-loop-again Inv-loop μ-loop
-loop-again c = (omega arith, below-more _ _ (c .before .before .before .loop .inv .1) (c .if2 .left))
+loop-again c = (omega arith, below-more _ _ (c .before .before .before .before .loop .inv .1) (c .if2 .left))
 
 returns-3 : tie.Need-returns-3 Inv-loop μ-loop
 returns-3 c = seat-none _ _ (c .before .before .if1 .left) _ (c .before .loop .inv .1) (omega arith)

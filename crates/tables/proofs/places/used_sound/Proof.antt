@@ -16,12 +16,12 @@ sets ws p used = SetsTest (word ws (546 + p)) (word ws (578 + p)) (word ws (610 
 
 returns-4 : tie.Need-returns-4
 returns-4 c =
-    let s = c .before .before .before .before .before .before .before .before .before .before .before .before .before .before in
+    let s = c .before .before .before .before .before .before .before .before .before .before .before .before .before .before .before .before in
     fails-so λ t. of-not-true _ (c .before .sets-sound .ensures) (c .if4 .taken) (subst (sets (s .args .words .now) (s .args .p)) (sym (s .pre .used-set)) (t .sets))
 
 returns-5 : tie.Need-returns-5
 returns-5 c =
-    let s = c .before .before .before .before .before .before .before .before .before .before .before .before .before .before in
+    let s = c .before .before .before .before .before .before .before .before .before .before .before .before .before .before .before .before in
     holds-so
     (record {
       high = search needs;
