@@ -8,9 +8,10 @@ ghost use Prim.Native.Nat.{ℕ, _+_, _<_, _^_};
 ghost use lib.Dec.{T, eqb};
 ghost use lib.ListN.{length};
 ghost use Rattle.rules.specs.Sets.{width, has};
-ghost use Rattle.rules.specs.Tables.{txn, obj, object-count, place-count, log-room, fresh as fresh-tables, is-live, place-of};
+ghost use Rattle.rules.specs.Tables.{object-count, place-count, log-room, fresh as fresh-tables, is-live, place-of};
 ghost use Rattle.rules.specs.Steps.{commit as committed, undo as undone-all, settle as settled-at, settle-count, crash as crashed-at, crash-count, restart as restarted, live-count};
-ghost use Rattle.rules.specs.Layout.{log-count-at, depends-at, queued-count-at, word-count, sound-words, unpack, pack, word};
+ghost use Rattle.rules.specs.Layout.{log-count-at, number-at, depends-at, queued-count-at, word-count, sound-words, unpack, pack, word};
+ghost use Rattle.calls.specs.Meaning.{txn-of, obj-of};
 ghost use Rattle.ends_laws.specs.Loops.{loop};
 ghost use Rattle.ends_laws.specs.Places.{free-words, add-record as record-added};
 ghost use Rattle.ends_laws.specs.Commit.{strike as struck};
@@ -19,6 +20,8 @@ ghost use Rattle.ends_laws.specs.Crash.{crash-object as crashed-object};
 ghost use Rattle.ends_laws.specs.Restart.{wipe as wiped, used-count, settle-first};
 ghost use Rattle.ends_laws.specs.Fresh.{OneFirst};
 ghost use Rattle.ends.specs.Closed.{Closed};
+use calls::Obj;
+use calls::Txn;
 
 // ---- fresh tables
 
@@ -57,12 +60,12 @@ pub fn fresh(words: &mut [u64])
 // ---- commit
 
 // Adds the next log record, for the transaction x.
-fn add_record(words: &mut [u64], x: u64)
+fn add_record(words: &mut [u64], x: Txn)
     requires { ⌜ (length (now words) ≡ word-count) × (word (now words) log-count-at < log-room) ⌝ }
-    ensures { λ r. ⌜ now (words .exit) ≡ record-added x (now (words .entry)) ⌝ }
+    ensures { λ r. ⌜ now (words .exit) ≡ record-added (x .num) (now (words .entry)) ⌝ }
 {
     let count = words[1];
-    words[2 + count as usize] = x;
+    words[2 + count as usize] = x.num;
     words[1] = count + 1;
 }
 
@@ -99,11 +102,11 @@ fn free_place(words: &mut [u64], p: usize)
 }
 
 // Adds the next log record for the transaction x at place p, frees the place, strikes it from all dependency sets.
-pub fn commit(words: &mut [u64], x: u64, p: usize)
-    requires { ⌜ T (sound-words (now words)) × T (is-live (unpack (now words) .live) (txn x))
-        × (p ≡ place-of (unpack (now words) .live) (txn x))
+pub fn commit(words: &mut [u64], x: Txn, p: usize)
+    requires { ⌜ T (sound-words (now words)) × T (is-live (unpack (now words) .live) (txn-of x))
+        × (p ≡ place-of (unpack (now words) .live) (txn-of x))
         × (length (unpack (now words) .log) < log-room) ⌝ }
-    ensures { λ r. ⌜ now (words .exit) ≡ pack (committed (unpack (now (words .entry))) (txn x)) ⌝ }
+    ensures { λ r. ⌜ now (words .exit) ≡ pack (committed (unpack (now (words .entry))) (txn-of x)) ⌝ }
 {
     add_record(words, x);
     strike_all(words, p);
@@ -127,7 +130,7 @@ fn undo_objects(words: &mut [u64], f: u64)
     ensures { λ r. ⌜ now (words .exit) ≡ loop object-count (undone-object f) (now (words .entry)) ⌝ }
 {
     for i in 0..32 {
-        objects::undo_object(words, f, i);
+        objects::undo_object(words, f, Obj { num: i });
     }
 }
 
@@ -152,16 +155,17 @@ pub fn undo(words: &mut [u64], f: u32)
 
 // ---- crash
 
-// Frees the lock of object i and drops its queued entries, if it is one of the set; gives how many.
-fn crash_object(words: &mut [u64], objects: u64, i: usize) -> u64
-    requires { ⌜ (length (now words) ≡ word-count) × (i < object-count) ⌝ }
-    ensures { λ r. ⌜ (r ≡ cond (has objects i) (word (now (words .entry)) (queued-count-at + i)) 0)
-        × (now (words .exit) ≡ crashed-object objects i (now (words .entry))) ⌝ }
+// Frees the lock of object o and drops its queued entries, if it is one of the set; gives how many.
+fn crash_object(words: &mut [u64], objects: u64, o: Obj) -> u64
+    requires { ⌜ (length (now words) ≡ word-count) × (o .num < object-count) ⌝ }
+    ensures { λ r. ⌜ (r ≡ cond (has objects (o .num)) (word (now (words .entry)) (queued-count-at + o .num)) 0)
+        × (now (words .exit) ≡ crashed-object objects (o .num) (now (words .entry))) ⌝ }
 {
+    let i = o.num;
     if sets::has(objects, i as u64) {
         let saved = words[834 + i];
         let dropped = words[866 + i];
-        objects::keep_saved(words, i, saved);
+        objects::keep_saved(words, o, saved);
         dropped
     } else {
         0
@@ -176,7 +180,7 @@ pub fn crash(words: &mut [u64], objects: u64) -> u64
 {
     let mut dropped = 0;
     for i in 0..32 {
-        dropped += crash_object(words, objects, i);
+        dropped += crash_object(words, objects, Obj { num: i });
     }
     dropped
 }
@@ -184,16 +188,16 @@ pub fn crash(words: &mut [u64], objects: u64) -> u64
 // ---- settle
 
 // The leading logged entries of object o leave its chain, the last of them becomes the stable version; gives how many.
-pub fn settle(words: &mut [u64], o: usize) -> u64
-    requires { ⌜ T (sound-words (now words)) × (o < object-count) ⌝ }
-    ensures { λ r. ⌜ (r ≡ settle-count (unpack (now (words .entry))) (obj o))
-        × (now (words .exit) ≡ pack (settled-at (unpack (now (words .entry))) (obj o))) ⌝ }
+pub fn settle(words: &mut [u64], o: Obj) -> u64
+    requires { ⌜ T (sound-words (now words)) × (o .num < object-count) ⌝ }
+    ensures { λ r. ⌜ (r ≡ settle-count (unpack (now (words .entry))) (obj-of o))
+        × (now (words .exit) ≡ pack (settled-at (unpack (now (words .entry))) (obj-of o))) ⌝ }
 {
     let k = objects::settle_number(words, o);
     if k == 0 {
         return 0;
     }
-    let last = words[1154 + (8 * o + (k as usize - 1))];
+    let last = objects::writer_at(words, o, k as usize - 1);
     let n = lookups::log_number(words, last);
     objects::settle_object(words, o, k as usize, n);
     k
@@ -201,11 +205,12 @@ pub fn settle(words: &mut [u64], o: usize) -> u64
 
 // ---- restart
 
-// 1 for a number in use, and 0 for none.
-fn used(number: u64) -> u64
-    ensures { λ r. ⌜ r ≡ cond (not (eqb number 0)) 1 0 ⌝ }
+// 1 for a place that is used, and 0 for a free one.
+fn used(words: &[u64], p: usize) -> u64
+    requires { ⌜ (length (now words) ≡ word-count) × (p < place-count) ⌝ }
+    ensures { λ r. ⌜ r ≡ cond (not (eqb (word (now (words .entry)) (number-at + p)) 0)) 1 0 ⌝ }
 {
-    if number == 0 { 0 } else { 1 }
+    if words[514 + p] == 0 { 0 } else { 1 }
 }
 
 // How many places are used.
@@ -215,7 +220,7 @@ fn count_used(words: &[u64]) -> u64
 {
     let mut n = 0;
     for p in 0..32 {
-        n += used(words[514 + p]);
+        n += used(words, p);
     }
     n
 }
@@ -225,8 +230,8 @@ fn settle_all(words: &mut [u64])
     requires { ⌜ T (sound-words (now words)) ⌝ }
     ensures { λ r. ⌜ now (words .exit) ≡ pack (settle-first object-count (unpack (now (words .entry)))) ⌝ }
 {
-    for o in 0..32 {
-        settle(words, o);
+    for i in 0..32 {
+        settle(words, Obj { num: i });
     }
 }
 
@@ -236,7 +241,7 @@ fn wipe_objects(words: &mut [u64])
     ensures { λ r. ⌜ now (words .exit) ≡ loop object-count wiped (now (words .entry)) ⌝ }
 {
     for i in 0..32 {
-        objects::keep_saved(words, i, 0);
+        objects::keep_saved(words, Obj { num: i }, 0);
     }
 }
 

@@ -3,13 +3,16 @@ ghost use mathlib.Core.Path.{_≡_};
 ghost use Prim.Native.Nat.{_+_, _<_, _≤_, _^_, min};
 ghost use lib.ListN.{length};
 ghost use Rattle.rules.specs.Tables.{object-count, chain-room};
-ghost use Rattle.rules.specs.Layout.{saved-count-at, word-count, word};
+ghost use Rattle.rules.specs.Layout.{holder-at, saved-count-at, word-count, word};
 ghost use Rattle.ends_laws.specs.Objects.{unlock as unlocked-words};
-ghost use Rattle.ends_laws.specs.Entries.{put-entry, clear as cleared, slide as slid, trim as trimmed};
-ghost use Rattle.ends_laws.specs.Scans.{seat as seat-in, falls-in, first-fall as first-fall-in};
+ghost use Rattle.ends_laws.specs.Entries.{writer-place, put-entry, clear as cleared, slide as slid, trim as trimmed};
+ghost use Rattle.ends_laws.specs.Scans.{falls-in, first-fall as first-fall-in};
 ghost use Rattle.ends_laws.specs.Cuts.{keep-saved as saved-kept};
 ghost use Rattle.ends_laws.specs.Undo.{unlock-fallen as fallen-unlocked, undo-object as undone-object};
 ghost use Rattle.ends_laws.specs.Settle.{settle-number as settle-number-in, put-stable as stable-put, settle-object as settled-object};
+use calls::Lsn;
+use calls::Obj;
+use calls::Txn;
 
 // The lower of two numbers.
 fn lower(a: u64, b: u64) -> u64
@@ -18,28 +21,37 @@ fn lower(a: u64, b: u64) -> u64
     if a < b { a } else { b }
 }
 
-// The lowest place with the number x, or 32 where there is none.
-fn seat(words: &[u64], x: u64) -> usize
-    requires { ⌜ length (now words) ≡ word-count ⌝ }
-    ensures { λ r. ⌜ r ≡ seat-in (now (words .entry)) x ⌝ }
+// Who holds object o.
+fn holder(words: &[u64], o: Obj) -> Txn
+    requires { ⌜ (length (now words) ≡ word-count) × (o .num < object-count) ⌝ }
+    ensures { λ r. ⌜ r .num ≡ word (now (words .entry)) (holder-at + o .num) ⌝ }
 {
-    for p in 0..32 {
-        if words[514 + p] == x {
-            return p;
-        }
+    let i = o.num;
+    Txn {
+        num: words[770 + i],
     }
-    32
+}
+
+// Who wrote entry j of object o's chain.
+pub fn writer_at(words: &[u64], o: Obj, j: usize) -> Txn
+    requires { ⌜ (length (now words) ≡ word-count) × (o .num < object-count) × (j < chain-room) ⌝ }
+    ensures { λ r. ⌜ r .num ≡ word (now (words .entry)) (writer-place (o .num) j) ⌝ }
+{
+    let i = o.num;
+    Txn {
+        num: words[1154 + (8 * i + j)],
+    }
 }
 
 // Whether the transaction x is one of those at the places f.
-fn falls(words: &[u64], f: u64, x: u64) -> bool
+fn falls(words: &[u64], f: u64, x: Txn) -> bool
     requires { ⌜ length (now words) ≡ word-count ⌝ }
-    ensures { λ r. ⌜ r ≡ falls-in (now (words .entry)) f x ⌝ }
+    ensures { λ r. ⌜ r ≡ falls-in (now (words .entry)) f (x .num) ⌝ }
 {
-    if x == 0 {
+    if x.num == 0 {
         return false;
     }
-    let p = seat(words, x);
+    let p = lookups::seat(words, x);
     if p < 32 {
         sets::has(f, p as u64)
     } else {
@@ -47,131 +59,138 @@ fn falls(words: &[u64], f: u64, x: u64) -> bool
     }
 }
 
-// The first entry of object i's chain whose writer is one of those at the places f, or 8 where there is none.
-fn first_fall(words: &[u64], f: u64, i: usize) -> usize
-    requires { ⌜ (length (now words) ≡ word-count) × (i < object-count) ⌝ }
-    ensures { λ r. ⌜ r ≡ first-fall-in (now (words .entry)) f i ⌝ }
+// The first entry of object o's chain whose writer is one of those at the places f, or 8 where there is none.
+fn first_fall(words: &[u64], f: u64, o: Obj) -> usize
+    requires { ⌜ (length (now words) ≡ word-count) × (o .num < object-count) ⌝ }
+    ensures { λ r. ⌜ r ≡ first-fall-in (now (words .entry)) f (o .num) ⌝ }
 {
     for j in 0..8 {
-        if falls(words, f, words[1154 + (8 * i + j)]) {
+        if falls(words, f, writer_at(words, o, j)) {
             return j;
         }
     }
     8
 }
 
-// Frees the lock of object i.
-fn unlock(words: &mut [u64], i: usize)
-    requires { ⌜ (length (now words) ≡ word-count) × (i < object-count) ⌝ }
-    ensures { λ r. ⌜ now (words .exit) ≡ unlocked-words i (now (words .entry)) ⌝ }
+// Frees the lock of object o.
+fn unlock(words: &mut [u64], o: Obj)
+    requires { ⌜ (length (now words) ≡ word-count) × (o .num < object-count) ⌝ }
+    ensures { λ r. ⌜ now (words .exit) ≡ unlocked-words (o .num) (now (words .entry)) ⌝ }
 {
+    let i = o.num;
     words[770 + i] = 0;
     words[802 + i] = 0;
 }
 
-// Sets entry j of object i's chain.
-fn set_entry(words: &mut [u64], i: usize, j: usize, value: u64, writer: u64)
-    requires { ⌜ (length (now words) ≡ word-count) × (i < object-count) × (j < chain-room) ⌝ }
-    ensures { λ r. ⌜ now (words .exit) ≡ put-entry i j value writer (now (words .entry)) ⌝ }
+// Sets entry j of object o's chain.
+fn set_entry(words: &mut [u64], o: Obj, j: usize, value: u64, writer: Txn)
+    requires { ⌜ (length (now words) ≡ word-count) × (o .num < object-count) × (j < chain-room) ⌝ }
+    ensures { λ r. ⌜ now (words .exit) ≡ put-entry (o .num) j value (writer .num) (now (words .entry)) ⌝ }
 {
+    let i = o.num;
     words[898 + (8 * i + j)] = value;
-    words[1154 + (8 * i + j)] = writer;
+    words[1154 + (8 * i + j)] = writer.num;
 }
 
-// Clears the entries of object i's chain from n on.
-fn clear(words: &mut [u64], i: usize, n: usize)
-    requires { ⌜ (length (now words) ≡ word-count) × (i < object-count) ⌝ }
-    ensures { λ r. ⌜ now (words .exit) ≡ cleared i n (now (words .entry)) ⌝ }
+// Clears the entries of object o's chain from n on.
+fn clear(words: &mut [u64], o: Obj, n: usize)
+    requires { ⌜ (length (now words) ≡ word-count) × (o .num < object-count) ⌝ }
+    ensures { λ r. ⌜ now (words .exit) ≡ cleared (o .num) n (now (words .entry)) ⌝ }
 {
     for j in n..8 {
-        set_entry(words, i, j, 0, 0);
+        set_entry(words, o, j, 0, Txn { num: 0 });
     }
 }
 
-// Cuts object i's chain to so many saved and so many queued entries.
-fn trim(words: &mut [u64], i: usize, saved: u64, queued: u64)
-    requires { ⌜ (length (now words) ≡ word-count) × (i < object-count) × (saved + queued < 2 ^ 64) ⌝ }
-    ensures { λ r. ⌜ now (words .exit) ≡ trimmed i saved queued (now (words .entry)) ⌝ }
+// Cuts object o's chain to so many saved and so many queued entries.
+fn trim(words: &mut [u64], o: Obj, saved: u64, queued: u64)
+    requires { ⌜ (length (now words) ≡ word-count) × (o .num < object-count) × (saved + queued < 2 ^ 64) ⌝ }
+    ensures { λ r. ⌜ now (words .exit) ≡ trimmed (o .num) saved queued (now (words .entry)) ⌝ }
 {
+    let i = o.num;
     words[834 + i] = saved;
     words[866 + i] = queued;
-    clear(words, i, (saved + queued) as usize);
+    clear(words, o, (saved + queued) as usize);
 }
 
-// Frees the lock of object i and leaves it its first n entries, as saved ones.
-pub fn keep_saved(words: &mut [u64], i: usize, n: u64)
-    requires { ⌜ (length (now words) ≡ word-count) × (i < object-count) ⌝ }
-    ensures { λ r. ⌜ now (words .exit) ≡ saved-kept i n (now (words .entry)) ⌝ }
+// Frees the lock of object o and leaves it its first n entries, as saved ones.
+pub fn keep_saved(words: &mut [u64], o: Obj, n: u64)
+    requires { ⌜ (length (now words) ≡ word-count) × (o .num < object-count) ⌝ }
+    ensures { λ r. ⌜ now (words .exit) ≡ saved-kept (o .num) n (now (words .entry)) ⌝ }
 {
-    unlock(words, i);
-    trim(words, i, n, 0);
+    unlock(words, o);
+    trim(words, o, n, 0);
 }
 
-// Frees the lock of object i if one of those at the places f holds it.
-fn unlock_fallen(words: &mut [u64], f: u64, i: usize)
-    requires { ⌜ (length (now words) ≡ word-count) × (i < object-count) ⌝ }
-    ensures { λ r. ⌜ now (words .exit) ≡ fallen-unlocked f i (now (words .entry)) ⌝ }
+// Frees the lock of object o if one of those at the places f holds it.
+fn unlock_fallen(words: &mut [u64], f: u64, o: Obj)
+    requires { ⌜ (length (now words) ≡ word-count) × (o .num < object-count) ⌝ }
+    ensures { λ r. ⌜ now (words .exit) ≡ fallen-unlocked f (o .num) (now (words .entry)) ⌝ }
 {
-    if falls(words, f, words[770 + i]) {
-        unlock(words, i);
+    if falls(words, f, holder(words, o)) {
+        unlock(words, o);
     }
 }
 
-// Those at the places f lose object i's lock and the chain from the first of them on.
-pub fn undo_object(words: &mut [u64], f: u64, i: usize)
-    requires { ⌜ (length (now words) ≡ word-count) × (i < object-count) ⌝ }
-    ensures { λ r. ⌜ now (words .exit) ≡ undone-object f i (now (words .entry)) ⌝ }
+// Those at the places f lose object o's lock and the chain from the first of them on.
+pub fn undo_object(words: &mut [u64], f: u64, o: Obj)
+    requires { ⌜ (length (now words) ≡ word-count) × (o .num < object-count) ⌝ }
+    ensures { λ r. ⌜ now (words .exit) ≡ undone-object f (o .num) (now (words .entry)) ⌝ }
 {
-    let kept = first_fall(words, f, i) as u64;
+    let i = o.num;
+    let kept = first_fall(words, f, o) as u64;
     let saved = lower(words[834 + i], kept);
     let queued = lower(words[866 + i], kept - saved);
-    unlock_fallen(words, f, i);
-    trim(words, i, saved, queued);
+    unlock_fallen(words, f, o);
+    trim(words, o, saved, queued);
 }
 
 // How many entries of object o leave: the saved ones before the first whose writer is live. In sound tables those are
 // the leading logged ones.
-pub fn settle_number(words: &[u64], o: usize) -> u64
-    requires { ⌜ (length (now words) ≡ word-count) × (o < object-count) ⌝ }
-    ensures { λ r. ⌜ r ≡ settle-number-in (now (words .entry)) o ⌝ }
+pub fn settle_number(words: &[u64], o: Obj) -> u64
+    requires { ⌜ (length (now words) ≡ word-count) × (o .num < object-count) ⌝ }
+    ensures { λ r. ⌜ r ≡ settle-number-in (now (words .entry)) (o .num) ⌝ }
 {
+    let i = o.num;
     let all_places = 4_294_967_295;
-    lower(words[834 + o], first_fall(words, all_places, o) as u64)
+    lower(words[834 + i], first_fall(words, all_places, o) as u64)
 }
 
-// Moves the entries of object i's chain down by k.
-fn slide(words: &mut [u64], i: usize, k: usize)
-    requires { ⌜ (length (now words) ≡ word-count) × (i < object-count) × (k ≤ chain-room) ⌝ }
-    ensures { λ r. ⌜ now (words .exit) ≡ slid i k (now (words .entry)) ⌝ }
+// Moves the entries of object o's chain down by k.
+fn slide(words: &mut [u64], o: Obj, k: usize)
+    requires { ⌜ (length (now words) ≡ word-count) × (o .num < object-count) × (k ≤ chain-room) ⌝ }
+    ensures { λ r. ⌜ now (words .exit) ≡ slid (o .num) k (now (words .entry)) ⌝ }
 {
+    let i = o.num;
     let left = 8 - k;
     for j in 0..left {
         let value = words[898 + (8 * i + (j + k))];
-        let writer = words[1154 + (8 * i + (j + k))];
-        set_entry(words, i, j, value, writer);
+        let writer = writer_at(words, o, j + k);
+        set_entry(words, o, j, value, writer);
     }
 }
 
 // Entry k - 1 of object o becomes its stable version, under the log number n, and its saved entries are k fewer.
-fn put_stable(words: &mut [u64], o: usize, k: usize, n: u64)
-    requires { ⌜ (length (now words) ≡ word-count) × (o < object-count) × (0 < k) × (k ≤ chain-room)
-        × (k ≤ word (now words) (saved-count-at + o)) ⌝ }
-    ensures { λ r. ⌜ now (words .exit) ≡ stable-put o k n (now (words .entry)) ⌝ }
+fn put_stable(words: &mut [u64], o: Obj, k: usize, n: Lsn)
+    requires { ⌜ (length (now words) ≡ word-count) × (o .num < object-count) × (0 < k) × (k ≤ chain-room)
+        × (k ≤ word (now words) (saved-count-at + o .num)) ⌝ }
+    ensures { λ r. ⌜ now (words .exit) ≡ stable-put (o .num) k (n .num) (now (words .entry)) ⌝ }
 {
-    let value = words[898 + (8 * o + (k - 1))];
-    let writer = words[1154 + (8 * o + (k - 1))];
-    let saved = words[834 + o];
-    words[674 + o] = value;
-    words[706 + o] = writer;
-    words[738 + o] = n;
-    words[834 + o] = saved - k as u64;
+    let i = o.num;
+    let value = words[898 + (8 * i + (k - 1))];
+    let writer = writer_at(words, o, k - 1);
+    let saved = words[834 + i];
+    words[674 + i] = value;
+    words[706 + i] = writer.num;
+    words[738 + i] = n.num;
+    words[834 + i] = saved - k as u64;
 }
 
 // Entry k - 1 of object o becomes its stable version, under the log number n; its first k entries leave.
-pub fn settle_object(words: &mut [u64], o: usize, k: usize, n: u64)
-    requires { ⌜ (length (now words) ≡ word-count) × (o < object-count) × (0 < k) × (k ≤ chain-room)
-        × (k ≤ word (now words) (saved-count-at + o)) ⌝ }
-    ensures { λ r. ⌜ now (words .exit) ≡ settled-object o k n (now (words .entry)) ⌝ }
+pub fn settle_object(words: &mut [u64], o: Obj, k: usize, n: Lsn)
+    requires { ⌜ (length (now words) ≡ word-count) × (o .num < object-count) × (0 < k) × (k ≤ chain-room)
+        × (k ≤ word (now words) (saved-count-at + o .num)) ⌝ }
+    ensures { λ r. ⌜ now (words .exit) ≡ settled-object (o .num) k (n .num) (now (words .entry)) ⌝ }
 {
     put_stable(words, o, k, n);
     slide(words, o, k);

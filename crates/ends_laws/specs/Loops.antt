@@ -13,7 +13,7 @@ use lib.ListN.{length, getD, set, length-set}
 use lib.Seq.{getD-set-same, getD-set-other}
 use Rattle.rules.specs.Tests.{row}
 use Rattle.rules.specs.Tables.{Tables}
-use Rattle.rules.specs.Layout.{pack}
+use Rattle.rules.specs.Layout.{word-count, pack}
 use Rattle.basics.specs.Logic.{passes-or-fails}
 use Rattle.basics.specs.Ranges.{below-suc}
 use Rattle.words_laws.specs.Parts.{row-is}
@@ -35,19 +35,30 @@ unfoldable pub loop : ℕ → (ℕ → List ℕ → List ℕ) → List ℕ → L
 loop zero f ws = ws
 loop (suc n) f ws = f n (loop n f ws)
 
--- one turn more, as the code counts, and all turns
-pub loop-more : (n : ℕ) (f : ℕ → List ℕ → List ℕ) (ws vs us : List ℕ) → vs ≡ loop n f ws → us ≡ f n vs
-    → us ≡ loop (n + 1) f ws
-unfolding loop
-loop-more n f ws vs us e r = r ∙ ap (f n) e ∙ ap (λ (k : ℕ). loop k f ws) (sym (add-one n))
+-- of n turns i are over: the words are those that they leave, and as many as ever
+pub record Turning (n : ℕ) (f : ℕ → List ℕ → List ℕ) (ws vs : List ℕ) (i : ℕ) : Type 0 where
+  pub at-most : i ≤ n
+  pub size : length vs ≡ word-count
+  pub left : vs ≡ loop i f ws
 
-pub loop-all : (n m : ℕ) (f : ℕ → List ℕ → List ℕ) (ws vs : List ℕ) → n ≤ m → m ≤ n → vs ≡ loop n f ws
-    → vs ≡ loop m f ws
-loop-all n m f ws vs h k e = e ∙ ap (λ (j : ℕ). loop j f ws) (omega arith)
+module _ {n : ℕ} {f : ℕ → List ℕ → List ℕ} {ws : List ℕ} where
+  pub turning-none : length ws ≡ word-count → Turning n f ws ws 0
+  unfolding loop
+  turning-none e = record { at-most = omega arith; size = e; left = refl }
 
-pub loop-none : (f : ℕ → List ℕ → List ℕ) (ws : List ℕ) → ws ≡ loop 0 f ws
-unfolding loop
-loop-none f ws = refl
+  -- one turn more, as the code counts
+  pub turning-more : {vs us : List ℕ} {i : ℕ} → Turning n f ws vs i → i < n → length us ≡ length vs → us ≡ f i vs
+      → Turning n f ws us (i + 1)
+  unfolding loop
+  turning-more {vs} {us} {i} t h e r =
+      record {
+        at-most = omega arith;
+        size = e ∙ t .size;
+        left = r ∙ ap (f i) (t .left) ∙ ap (λ (k : ℕ). loop k f ws) (sym (add-one i));
+      }
+
+  pub turning-all : {vs : List ℕ} {i : ℕ} → Turning n f ws vs i → n ≤ i → vs ≡ loop n f ws
+  turning-all {vs} {i} t h = t .left ∙ ap (λ (k : ℕ). loop k f ws) (omega arith)
 
 -- ---- a list of which each turn sets one element
 

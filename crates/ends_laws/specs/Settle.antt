@@ -49,17 +49,15 @@ settle-number-most ws o =
     let most = lowest-is chain-room (λ j. falls-in ws all-places (word ws (writer-place o j))) .at-most in
     (omega arith, omega arith)
 
--- object o with entry k - 1 as its stable version, under the log number n, and with k saved entries fewer
-unfoldable pub put-stable : ℕ → ℕ → ℕ → List ℕ → List ℕ
-put-stable o k n ws =
-    set
-    (set
-    (set (set ws (stable-value-at + o) (word ws (value-place o (k - 1)))) (stable-writer-at + o)
-    (word ws (writer-place o (k - 1))))
-    (stable-number-at + o)
-    n)
-    (saved-count-at + o)
+-- object o with a value x of the writer y as its stable version, under the log number n, and with k saved entries fewer
+abbrev pub put-version : ℕ → ℕ → ℕ → ℕ → ℕ → List ℕ → List ℕ
+put-version o k x y n ws =
+    set (set (set (set ws (stable-value-at + o) x) (stable-writer-at + o) y) (stable-number-at + o) n) (saved-count-at + o)
     (word ws (saved-count-at + o) - k)
+
+-- the same with entry k - 1
+unfoldable pub put-stable : ℕ → ℕ → ℕ → List ℕ → List ℕ
+put-stable o k n ws = put-version o k (word ws (value-place o (k - 1))) (word ws (writer-place o (k - 1))) n ws
 
 -- and without its first k entries
 unfoldable pub settle-object : ℕ → ℕ → ℕ → List ℕ → List ℕ

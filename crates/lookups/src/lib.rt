@@ -9,7 +9,7 @@ ghost use Rattle.rules.specs.Sets.{width};
 ghost use Rattle.rules.specs.Tables.{place-count, object-count, object, place-of as place-in, log-number as number-in, latest as latest-of};
 ghost use Rattle.rules.specs.Falls.{and-dependents as one-round, fallen as fallen-in};
 ghost use Rattle.rules.specs.Steps.{free-places as free-in};
-ghost use Rattle.rules.specs.Layout.{sound-words, unpack};
+ghost use Rattle.rules.specs.Layout.{number-at, word-count, sound-words, unpack};
 ghost use Rattle.calls.specs.Meaning.{txn-of, lsn-of, obj-of};
 ghost use Rattle.lookups.specs.Entries.{entry-of, entry-words};
 ghost use Rattle.lookups.specs.Rounds.{joins-in};
@@ -25,7 +25,7 @@ pub struct Entry {
 }
 
 // The first of the `count` words from `from` on that is x, counted from 0, or `count` where none is.
-pub fn scan(words: &[u64], from: usize, count: usize, x: u64) -> usize
+fn scan(words: &[u64], from: usize, count: usize, x: u64) -> usize
     requires { ⌜ from + count ≤ length (now words) ⌝ }
     ensures { λ r. ⌜ r ≡ first-at (now (words .entry)) from count x ⌝ }
 {
@@ -37,12 +37,20 @@ pub fn scan(words: &[u64], from: usize, count: usize, x: u64) -> usize
     count
 }
 
+// The lowest place with the number x, or 32 where none has it; the words need not be sound.
+pub fn seat(words: &[u64], x: Txn) -> usize
+    requires { ⌜ length (now words) ≡ word-count ⌝ }
+    ensures { λ r. ⌜ r ≡ first-at (now (words .entry)) number-at place-count (x .num) ⌝ }
+{
+    scan(words, 514, 32, x.num)
+}
+
 // The place of a live transaction, or 32 where it has none.
 pub fn place_of(words: &[u64], x: Txn) -> usize
     requires { ⌜ T (sound-words (now words)) ⌝ }
     ensures { λ r. ⌜ r ≡ place-in (unpack (now (words .entry)) .live) (txn-of x) ⌝ }
 {
-    scan(words, 514, 32, x.num)
+    seat(words, x)
 }
 
 // The log number of a logged transaction, or one past the last record where it is not logged.

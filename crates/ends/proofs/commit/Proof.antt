@@ -26,7 +26,7 @@ strike-all-requires c κs =
     let start = c .before .before .before .before .before .before in
     let add-record-call = c .before .before .before .add-record in
     let ws : List ℕ = start .args .words .now in
-    let x = start .args .x in
+    let x = start .args .x .num in
     let pre = start .pre in (
       add-record-call .kept .0 ∙ size ws (pre .0),
       seat-below ws (pre .0) x (start .args .p) (pre .1) (pre .2),
@@ -42,7 +42,7 @@ free-place-requires c κs =
     let ws : List ℕ = start .args .words .now in
     let pre = start .pre in (
       c .before .before .before .strike-all .kept .0 ∙ add-record-call .kept .0 ∙ size ws (pre .0),
-      seat-below ws (pre .0) (start .args .x) (start .args .p) (pre .1) (pre .2),
+      seat-below ws (pre .0) (start .args .x .num) (start .args .p) (pre .1) (pre .2),
     )
 
 same-length : tie.Need-same-length
@@ -63,7 +63,7 @@ returns c =
     let pre = start .pre in
     c .before .before .free-place .ensures
     ∙ ap (free-words p) (strike-all-call .ensures ∙ ap (loop place-count (strike p)) (add-record-call .ensures))
-    ∙ commit-leaves (start .args .words .now) (pre .0) (start .args .x) (pre .3) p (pre .1) (pre .2)
+    ∙ commit-leaves (start .args .words .now) (pre .0) (start .args .x .num) (pre .3) p (pre .1) (pre .2)
 
 pub commit-spec : {M : Type 1} → statement M
 commit-spec =

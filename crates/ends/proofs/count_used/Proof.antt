@@ -25,22 +25,13 @@ loop-holds : tie.Need-loop-holds Inv-loop μ-loop
 unfolding count
 loop-holds c = (omega arith, refl)
 
-add-used : tie.Need-add-used Inv-loop μ-loop
-add-used c = omega arith
-
-mul-used : tie.Need-mul-used Inv-loop μ-loop
-mul-used c = omega arith
-
-shared-slice-read-used : tie.Need-shared-slice-read-used Inv-loop μ-loop
-shared-slice-read-used c = omega arith
-
 used-requires : tie.Need-used-requires Inv-loop μ-loop
 used-requires c κs = search needs
 
 add-n : tie.Need-add-n Inv-loop μ-loop
 add-n c =
-    let turn = c .before .before .before .loop in
-    let start = c .before .before .before .before .before in
+    let turn = c .before .before .loop in
+    let start = c .before .before .before .before in
     let ws : List ℕ = start .args .words .now in
     omega (
       arith,
@@ -57,8 +48,8 @@ loop-less c = omega arith
 
 loop-again : tie.Need-loop-again Inv-loop μ-loop
 loop-again c =
-    let turn = c .before .before .before .loop in
-    let start = c .before .before .before .before .before in (
+    let turn = c .before .before .loop in
+    let start = c .before .before .before .before in (
       omega arith,
       used-more (start .args .words .now) (turn .p) (turn .n) (c .used .result) (turn .inv .1)
           (c .used .ensures),
@@ -78,9 +69,6 @@ count-used-spec =
     Inv-loop
     μ-loop
     loop-holds
-    add-used
-    mul-used
-    shared-slice-read-used
     used-requires
     add-n
     add-p

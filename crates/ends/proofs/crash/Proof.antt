@@ -5,12 +5,10 @@ use mathlib.Core.List.{List}
 use mathlib.Core.Path.{_≡_, refl, ap, sym, _∙_}
 use Prim.Native.Nat.{ℕ, _-_, _*_, _≤_}
 use native.Mathlib.Omega.{arith}
-use lib.ListN.{length}
 use Rattle.rules.specs.Tests.{sum}
 use Rattle.rules.specs.Tables.{object-count, chain-room}
 use Rattle.rules.specs.Steps.{crash-count}
-use Rattle.rules.specs.Layout.{word-count}
-use Rattle.ends_laws.specs.Loops.{loop, loop-none, loop-more, loop-all}
+use Rattle.ends_laws.specs.Loops.{Turning, turning-none, turning-more, turning-all}
 use Rattle.ends_laws.specs.Crash.{crash-words, crash-object}
 use Rattle.ends_laws.specs.Leaves.{size, crash-leaves, dropped as dropped-in, dropped-more, drops, drops-few}
 use Rattle.ends.proofs.crash.Statement.{statement}
@@ -18,9 +16,7 @@ use Rattle.ends.proofs.crash.Tie as tie
 
 abbrev Inv-loop : tie.InvT-loop
 Inv-loop words₀ objects dropped₀ i₀ words dropped i =
-    (i ≤ object-count)
-    × (length words ≡ word-count)
-    × (words ≡ loop i (crash-object objects) words₀)
+    Turning object-count (crash-object objects) words₀ words i
     × (dropped ≡ sum i (dropped-in words₀ objects))
     × (dropped ≤ chain-room * i)
 
@@ -30,17 +26,11 @@ abbrev μ-loop : tie.MeasureT-loop
 loop-holds : tie.Need-loop-holds Inv-loop μ-loop
 unfolding sum
 loop-holds c =
-    let start = c .before in (
-      omega arith,
-      size (start .args .words .now) (start .pre .0),
-      loop-none (crash-object (start .args .objects))
-          (start .args .words .now),
-      refl,
-      omega arith,
-    )
+    let start = c .before in
+    (turning-none (size (start .args .words .now) (start .pre .0)), refl, omega arith)
 
 crash-object-requires : tie.Need-crash-object-requires Inv-loop μ-loop
-crash-object-requires c κs = (c .before .before .loop .inv .1, omega arith)
+crash-object-requires c κs = (c .before .before .loop .inv .0 .size, omega arith)
 
 add-dropped : tie.Need-add-dropped Inv-loop μ-loop
 add-dropped c =
@@ -49,7 +39,7 @@ add-dropped c =
     let ws : List ℕ = start .args .words .now in
     let now =
     c .before .before .crash-object .ensures .0
-    ∙ drops ws (start .pre .0) (start .args .objects) (turn .i) (omega arith) (turn .words) (turn .inv .2) in
+    ∙ drops ws (start .pre .0) (start .args .objects) (turn .i) (omega arith) (turn .words) (turn .inv .0 .left) in
     omega (arith, drops-few ws (start .pre .0) (start .args .objects) (turn .i) (omega arith))
 
 add-i : tie.Need-add-i Inv-loop μ-loop
@@ -67,19 +57,16 @@ loop-again c =
     let objects = start .args .objects in
     let now =
     crash-object-call .ensures .0
-    ∙ drops ws (start .pre .0) objects (turn .i) (omega arith) (turn .words) (turn .inv .2) in (
-      omega arith,
-      crash-object-call .kept .0 ∙ turn .inv .1,
-      loop-more (turn .i) (crash-object objects) ws (turn .words) (crash-object-call .last .0) (turn .inv .2)
-          (crash-object-call .ensures .1),
-      dropped-more ws objects (turn .i) (turn .dropped) (crash-object-call .result) (turn .inv .3) now,
+    ∙ drops ws (start .pre .0) objects (turn .i) (omega arith) (turn .words) (turn .inv .0 .left) in (
+      turning-more (turn .inv .0) (omega arith) (crash-object-call .kept .0) (crash-object-call .ensures .1),
+      dropped-more ws objects (turn .i) (turn .dropped) (crash-object-call .result) (turn .inv .1) now,
       omega (arith, drops-few ws (start .pre .0) objects (turn .i) (omega arith)),
     )
 
 same-length : tie.Need-same-length Inv-loop μ-loop
 same-length c =
     let start = c .before .before .before in
-    c .before .loop .inv .1 ∙ sym (size (start .args .words .now) (start .pre .0))
+    c .before .loop .inv .0 .size ∙ sym (size (start .args .words .now) (start .pre .0))
 
 returns : tie.Need-returns Inv-loop μ-loop
 unfolding crash-words crash-count
@@ -89,10 +76,8 @@ returns c =
     let ws : List ℕ = start .args .words .now in
     let objects = start .args .objects in
     let all : turn .i ≡ object-count = omega arith in (
-      turn .inv .3 ∙ ap (λ (n : ℕ). sum n (dropped-in ws objects)) all,
-      loop-all (turn .i) object-count (crash-object objects) ws (turn .words) (turn .inv .0) (c .loop-test .left)
-          (turn .inv .2)
-          ∙ crash-leaves ws (start .pre .0) objects,
+      turn .inv .1 ∙ ap (λ (n : ℕ). sum n (dropped-in ws objects)) all,
+      turning-all (turn .inv .0) (c .loop-test .left) ∙ crash-leaves ws (start .pre .0) objects,
     )
 
 pub crash-spec : {M : Type 1} → statement M

@@ -46,7 +46,7 @@ returns c =
     let if1 = c .before .before .before .before .before .before .if1 in
     let has-call = c .before .before .before .before .before .before .before .has in
     let ws : List ℕ = start .args .words .now in
-    let i = start .args .i in
+    let i = start .args .o .num in
     let test : true ≡ has (start .args .objects) i = sym (if1 .taken) ∙ has-call .ensures in (
       ap (λ (b : Bool). cond b (word ws (queued-count-at + i)) 0) test,
       c .before .before .keep-saved .ensures
@@ -58,7 +58,7 @@ unfolding crash-object
 returns-2 c =
     let start = c .before .before .before in
     let ws : List ℕ = start .args .words .now in
-    let i = start .args .i in
+    let i = start .args .o .num in
     let test : false ≡ has (start .args .objects) i = sym (c .if1 .left) ∙ c .before .has .ensures in (
       ap (λ (b : Bool). cond b (word ws (queued-count-at + i)) 0) test,
       ap (λ (b : Bool). cond b (keep-saved i (word ws (saved-count-at + i)) ws) ws) test,

@@ -2,10 +2,12 @@
 -- some` says that they become so.
 -- Assumes nothing.
 use mathlib.Core.List.{List}
-use mathlib.Core.Path.{sym, _∙_}
+use mathlib.Core.Path.{ap, sym, _∙_}
 use Prim.Native.Nat.{ℕ}
 use native.Mathlib.Omega.{arith}
 use borrow.Author.Needs.{needs}
+use Rattle.rules.specs.Tables.{Lsn, txn, log-number}
+use Rattle.rules.specs.Layout.{unpack}
 use Rattle.ends_laws.specs.Settle.{settle-number-most}
 use Rattle.ends_laws.specs.Leaves.{size, settle-number-is, settle-leaves-none, settle-leaves-some}
 use Rattle.ends.proofs.settle.Statement.{statement}
@@ -24,54 +26,31 @@ returns c =
     let start = c .before .before .before .before in
     let settle-number-call = c .before .settle-number in
     let ws : List ℕ = start .args .words .now in
-    let o = start .args .o in
+    let o = start .args .o .num in
     let pre = start .pre in (
       sym (c .if1 .taken) ∙ settle-number-call .ensures ∙ settle-number-is ws (pre .0) o (pre .1),
       settle-leaves-none ws (pre .0) o (pre .1) (sym (settle-number-call .ensures) ∙ c .if1 .taken),
     )
 
-mul-last : tie.Need-mul-last
-mul-last c = omega arith
+sub-writer-at : tie.Need-sub-writer-at
+sub-writer-at c = omega arith
 
-sub-last : tie.Need-sub-last
-sub-last c = omega arith
-
-add-last : tie.Need-add-last
-add-last c =
-    let start = c .before .before .before .before in
-    omega (arith, settle-number-most (start .args .words .now) (start .args .o) .0)
-
-add-last-2 : tie.Need-add-last-2
-add-last-2 c =
-    let start = c .before .before .before .before in
-    omega (arith, settle-number-most (start .args .words .now) (start .args .o) .0)
-
-mul-last-2 : tie.Need-mul-last-2
-mul-last-2 c =
-    let start = c .before .before .before .before in
-    omega (arith, settle-number-most (start .args .words .now) (start .args .o) .0)
-
-slice-read-last : tie.Need-slice-read-last
-slice-read-last c =
+writer-at-requires : tie.Need-writer-at-requires
+writer-at-requires c κs =
     let start = c .before .before .before .before .before in
-    omega (
-      arith,
-      settle-number-most (start .args .words .now) (start .args .o) .0,
-      size (start .args .words .now)
-          (start .pre .0),
-    )
+    let most = settle-number-most (start .args .words .now) (start .args .o .num) in
+    (size (start .args .words .now) (start .pre .0), start .pre .1, omega arith)
 
 log-number-requires : tie.Need-log-number-requires
 log-number-requires c κs =
-    let start = c .before .before .before .before .before .before in
+    let start = c .before .before .before .before .before .before .before in
     start .pre .0
 
 settle-object-requires : tie.Need-settle-object-requires
 settle-object-requires c κs =
-    let start = c .before .before .before .before .before .before .before .before in
+    let start = c .before .before .before .before .before .before .before .before .before in
     let ws : List ℕ = start .args .words .now in
-    let o = start .args .o in
-    let most = settle-number-most ws o in
+    let most = settle-number-most ws (start .args .o .num) in
     (size ws (start .pre .0), start .pre .1, omega arith, omega arith, omega arith)
 
 same-length-2 : tie.Need-same-length-2
@@ -79,18 +58,20 @@ same-length-2 c = c .before .before .settle-object .kept .0
 
 returns-2 : tie.Need-returns-2
 returns-2 c =
-    let late = c .before .before .before .before .before .before .before .before in
-    let start = late .before .before .before in
-    let settle-number-call = c .before .before .before .before .before .before .before .before .settle-number in
+    let late = c .before .before .before .before .before .before in
+    let start = late .before .before .before .before .before .before in
+    let settle-number-call = late .before .before .before .settle-number in
     let log-number-call = c .before .before .before .before .log-number in
     let ws : List ℕ = start .args .words .now in
-    let o = start .args .o in
+    let o = start .args .o .num in
     let pre = start .pre in (
       settle-number-call .ensures ∙ settle-number-is ws (pre .0) o (pre .1),
       c .before .before .settle-object .ensures
-          ∙ settle-leaves-some ws (pre .0) o (pre .1) (settle-number-call .result) (log-number-call .result)
+          ∙ settle-leaves-some ws (pre .0) o (pre .1) (settle-number-call .result) (log-number-call .result .num)
           (settle-number-call .ensures)
-          (omega arith) (log-number-call .ensures),
+          (omega arith)
+          (ap (λ (n : Lsn). n .num) (log-number-call .ensures)
+          ∙ ap (λ (y : ℕ). log-number (unpack ws .log) (txn y) .num) (late .writer-at .ensures)),
     )
 
 pub settle-spec : {M : Type 1} → statement M
@@ -100,12 +81,8 @@ settle-spec =
     settle-number-requires
     same-length
     returns
-    mul-last
-    sub-last
-    add-last
-    add-last-2
-    mul-last-2
-    slice-read-last
+    sub-writer-at
+    writer-at-requires
     log-number-requires
     settle-object-requires
     same-length-2

@@ -18,10 +18,10 @@ use Rattle.ends.proofs.settle_all.Statement.{statement}
 use Rattle.ends.proofs.settle_all.Tie as tie
 
 abbrev Inv-loop : tie.InvT-loop
-Inv-loop words₀ o₀ words o = (o ≤ object-count) × (words ≡ pack (settle-first o (unpack words₀)))
+Inv-loop words₀ i₀ words i = (i ≤ object-count) × (words ≡ pack (settle-first i (unpack words₀)))
 
 abbrev μ-loop : tie.MeasureT-loop
-μ-loop words₀ o₀ words o = object-count - o
+μ-loop words₀ i₀ words i = object-count - i
 
 loop-holds : tie.Need-loop-holds Inv-loop μ-loop
 unfolding settle-first
@@ -34,12 +34,12 @@ settle-requires c κs =
     let turn = c .before .before .loop in
     let start = c .before .before .before .before in (
       subst (λ (vs : List ℕ). T (sound-words vs)) (sym (turn .inv .1))
-          (still-sound (start .args .words .now) (start .pre) (turn .o) (omega arith)),
+          (still-sound (start .args .words .now) (start .pre) (turn .i) (omega arith)),
       omega arith,
     )
 
-add-o : tie.Need-add-o Inv-loop μ-loop
-add-o c = omega arith
+add-i : tie.Need-add-i Inv-loop μ-loop
+add-i c = omega arith
 
 loop-less : tie.Need-loop-less Inv-loop μ-loop
 loop-less c = omega arith
@@ -51,22 +51,22 @@ loop-again c =
     let ws : List ℕ = start .args .words .now in (
       omega arith,
       c .before .before .settle .ensures .1
-          ∙ ap (λ (vs : List ℕ). pack (settle (unpack vs) (obj (turn .o)))) (turn .inv .1)
-          ∙ ap pack (settle-next ws (start .pre) (turn .o) (omega arith))
-          ∙ ap (λ (n : ℕ). pack (settle-first n (unpack ws))) (sym (add-one (turn .o))),
+          ∙ ap (λ (vs : List ℕ). pack (settle (unpack vs) (obj (turn .i)))) (turn .inv .1)
+          ∙ ap pack (settle-next ws (start .pre) (turn .i) (omega arith))
+          ∙ ap (λ (n : ℕ). pack (settle-first n (unpack ws))) (sym (add-one (turn .i))),
     )
 
 same-length : tie.Need-same-length Inv-loop μ-loop
 same-length c =
     let turn = c .before .loop in
     let start = c .before .before .before in
-    ap length (turn .inv .1) ∙ pack-length (settle-first (turn .o) (unpack (start .args .words .now)))
+    ap length (turn .inv .1) ∙ pack-length (settle-first (turn .i) (unpack (start .args .words .now)))
     ∙ sym (size (start .args .words .now) (start .pre))
 
 returns : tie.Need-returns Inv-loop μ-loop
 returns c =
     let turn = c .before .loop in
-    let all : turn .o ≡ object-count = omega arith in
+    let all : turn .i ≡ object-count = omega arith in
     turn .inv .1 ∙ ap (λ (n : ℕ). pack (settle-first n (unpack (c .before .before .before .args .words .now)))) all
 
 pub settle-all-spec : {M : Type 1} → statement M
@@ -77,7 +77,7 @@ settle-all-spec =
     μ-loop
     loop-holds
     settle-requires
-    add-o
+    add-i
     loop-less
     loop-again
     same-length

@@ -1,7 +1,6 @@
 -- `ends::objects::first_fall` meets its contract. The loop's invariant: none of the entries passed falls.
 -- Assumes nothing.
-use mathlib.Core.List.{List}
-use mathlib.Core.Path.{subst, sym, _∙_}
+use mathlib.Core.Path.{_≡_, subst, ap, sym, _∙_}
 use mathlib.Core.Bool.{Bool}
 use Prim.Native.Nat.{ℕ, _-_, _≤_, _<_}
 use native.Mathlib.Omega.{arith}
@@ -17,45 +16,42 @@ use Rattle.ends.proofs.objects.first_fall.Statement.{statement}
 use Rattle.ends.proofs.objects.first_fall.Tie as tie
 
 abbrev Inv-loop : tie.InvT-loop
-Inv-loop words f i j₀ j =
-    (j ≤ chain-room) × ((k : ℕ) → k < j → T (falls-in words f (word words (writer-place i k))) → ⊥)
+Inv-loop words f o j₀ j =
+    (j ≤ chain-room) × ((k : ℕ) → k < j → T (falls-in words f (word words (writer-place (o .num) k))) → ⊥)
 
 abbrev μ-loop : tie.MeasureT-loop
-μ-loop words f i j₀ j = chain-room - j
+μ-loop words f o j₀ j = chain-room - j
 
 loop-holds : tie.Need-loop-holds Inv-loop μ-loop
 loop-holds c = (omega arith, λ k l t. absurd (omega arith))
 
-mul-falls : tie.Need-mul-falls Inv-loop μ-loop
-mul-falls c = omega arith
-
-add-falls : tie.Need-add-falls Inv-loop μ-loop
-add-falls c = omega arith
-
-add-falls-2 : tie.Need-add-falls-2 Inv-loop μ-loop
-add-falls-2 c = omega arith
-
-mul-falls-2 : tie.Need-mul-falls-2 Inv-loop μ-loop
-mul-falls-2 c = omega arith
-
-shared-slice-read-falls : tie.Need-shared-slice-read-falls Inv-loop μ-loop
-shared-slice-read-falls c = omega arith
+writer-at-requires : tie.Need-writer-at-requires Inv-loop μ-loop
+writer-at-requires c κs = omega arith
 
 falls-requires : tie.Need-falls-requires Inv-loop μ-loop
 falls-requires c κs = search needs
+
+-- entry k's writer falls
+abbrev test : tie.Start Inv-loop μ-loop → ℕ → Bool
+test c k = falls-in (c .args .words .now) (c .args .f) (word (c .args .words .now) (writer-place (c .args .o .num) k))
+
+-- the answer of a turn
+answer : (c : tie.After-falls Inv-loop μ-loop)
+    → c .falls .result ≡ test (c .before .before .before .before .before) (c .before .before .before .loop .j)
+answer c =
+    let a = c .before .before .before .before .before .args in
+    c .falls .ensures ∙ ap (falls-in (a .words .now) (a .f)) (c .before .writer-at .ensures)
 
 returns : tie.Need-returns Inv-loop μ-loop
 unfolding first-fall
 returns c =
     let turn = c .before .before .before .before .loop in
-    let start = c .before .before .before .before .before .before in
-    let ws : List ℕ = start .args .words .now in
-    let test : ℕ → Bool = λ j. falls-in ws (start .args .f) (word ws (writer-place (start .args .i) j)) in
-    found chain-room test (turn .j)
+    let entry = test (c .before .before .before .before .before .before) in
+    found chain-room entry (turn .j)
     (record {
       at-most = omega arith;
       none-below = turn .inv .1;
-      passes = λ l. from-true (test (turn .j)) (sym (c .before .falls .ensures) ∙ c .if1 .taken);
+      passes = λ l. from-true (entry (turn .j)) (sym (answer (c .before)) ∙ c .if1 .taken);
     })
 
 add-j : tie.Need-add-j Inv-loop μ-loop
@@ -67,16 +63,13 @@ loop-less c = omega arith
 loop-again : tie.Need-loop-again Inv-loop μ-loop
 loop-again c =
     let turn = c .before .before .before .before .loop in
-    (omega arith, below-more _ _ (turn .inv .1) (λ t. subst T (sym (c .before .falls .ensures) ∙ c .if1 .left) t))
+    (omega arith, below-more _ _ (turn .inv .1) (λ t. subst T (sym (answer (c .before)) ∙ c .if1 .left) t))
 
 returns-2 : tie.Need-returns-2 Inv-loop μ-loop
 unfolding first-fall
 returns-2 c =
     let turn = c .before .loop in
-    let start = c .before .before .before in
-    let ws : List ℕ = start .args .words .now in
-    let test : ℕ → Bool = λ j. falls-in ws (start .args .f) (word ws (writer-place (start .args .i) j)) in
-    found chain-room test chain-room
+    found chain-room (test (c .before .before .before)) chain-room
     (record {
       at-most = omega arith;
       none-below = λ k l. turn .inv .1 k (omega arith);
@@ -90,11 +83,7 @@ first-fall-spec =
     Inv-loop
     μ-loop
     loop-holds
-    mul-falls
-    add-falls
-    add-falls-2
-    mul-falls-2
-    shared-slice-read-falls
+    writer-at-requires
     falls-requires
     returns
     add-j

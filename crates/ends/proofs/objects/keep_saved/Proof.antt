@@ -23,7 +23,7 @@ unfolding keep-saved
 returns c =
     let start = c .before .before .before .before .before .before .before .before .before in
     let unlock-call = c .before .before .before .before .before .before .unlock in
-    c .before .before .trim .ensures ∙ ap (trim (start .args .i) (start .args .n) 0) (unlock-call .ensures)
+    c .before .before .trim .ensures ∙ ap (trim (start .args .o .num) (start .args .n) 0) (unlock-call .ensures)
 
 pub keep-saved-spec : {M : Type 1} → statement M
 keep-saved-spec = tie.close (tie.spec unlock-requires trim-requires same-length returns)

@@ -1,9 +1,12 @@
 -- `ends::objects::put_stable` meets its contract. It writes the four words of the definition.
 -- Assumes nothing.
-use mathlib.Core.Path.{refl}
+use mathlib.Core.Path.{ap}
+use Prim.Native.Nat.{ℕ, _-_}
 use native.Mathlib.Omega.{arith}
 use lib.ListN.{length-set}
-use Rattle.ends_laws.specs.Settle.{put-stable}
+use Rattle.rules.specs.Layout.{word}
+use Rattle.ends_laws.specs.Entries.{value-place}
+use Rattle.ends_laws.specs.Settle.{put-version, put-stable}
 use Rattle.ends.proofs.objects.put_stable.Statement.{statement}
 use Rattle.ends.proofs.objects.put_stable.Tie as tie
 
@@ -25,23 +28,11 @@ mul-value-2 c = omega arith
 slice-read-value : tie.Need-slice-read-value
 slice-read-value c = omega arith
 
-mul-writer : tie.Need-mul-writer
-mul-writer c = omega arith
+sub-writer-at : tie.Need-sub-writer-at
+sub-writer-at c = omega arith
 
-sub-writer : tie.Need-sub-writer
-sub-writer c = omega arith
-
-add-writer : tie.Need-add-writer
-add-writer c = omega arith
-
-add-writer-2 : tie.Need-add-writer-2
-add-writer-2 c = omega arith
-
-mul-writer-2 : tie.Need-mul-writer-2
-mul-writer-2 c = omega arith
-
-slice-read-writer : tie.Need-slice-read-writer
-slice-read-writer c = omega arith
+writer-at-requires : tie.Need-writer-at-requires
+writer-at-requires c κs = omega arith
 
 add-saved : tie.Need-add-saved
 add-saved c = omega arith
@@ -96,7 +87,11 @@ same-length c = simp length-set
 
 returns : tie.Need-returns
 unfolding put-stable
-returns c = refl
+returns c =
+    let a = c .before .before .before .before .before .args in
+    let o = a .o .num in
+    let ws = a .words .now in
+    ap (λ (y : ℕ). put-version o (a .k) (word ws (value-place o (a .k - 1))) y (a .n .num) ws) (c .before .writer-at .ensures)
 
 pub put-stable-spec : {M : Type 1} → statement M
 put-stable-spec =
@@ -108,12 +103,8 @@ put-stable-spec =
     add-value-2
     mul-value-2
     slice-read-value
-    mul-writer
-    sub-writer
-    add-writer
-    add-writer-2
-    mul-writer-2
-    slice-read-writer
+    sub-writer-at
+    writer-at-requires
     add-saved
     mul-saved
     slice-read-saved

@@ -28,7 +28,7 @@ unfolding settle-number
 returns c =
     let start = c .before .before .before .before in
     c .lower .ensures
-    ∙ ap (min (word (start .args .words .now) (saved-count-at + start .args .o))) (c .before .first-fall .ensures)
+    ∙ ap (min (word (start .args .words .now) (saved-count-at + start .args .o .num))) (c .before .first-fall .ensures)
 
 pub settle-number-spec : {M : Type 1} → statement M
 settle-number-spec =

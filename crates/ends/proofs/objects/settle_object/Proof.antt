@@ -41,7 +41,7 @@ returns c =
     let start = late .before .before .before .before .before in
     let slide-call = c .before .before .before .before .before .before .slide in
     let put-stable-call = late .before .before .put-stable in
-    let o = start .args .o in
+    let o = start .args .o .num in
     let k = start .args .k in
     c .before .before .clear .ensures
     ∙ ap (clear o (chain-room - k)) (slide-call .ensures ∙ ap (slide o k) (put-stable-call .ensures))

@@ -1,30 +1,26 @@
 -- `ends::objects::slide` meets its contract. The loop's invariant: the words are those after so many turns.
 -- Assumes nothing.
-use mathlib.Core.Path.{_≡_, sym, _∙_}
-use Prim.Native.Nat.{_-_, _≤_}
+use mathlib.Core.Path.{_≡_, subst, sym, _∙_}
+use Prim.Native.Nat.{ℕ, _+_, _-_}
 use native.Mathlib.Omega.{arith}
-use lib.ListN.{length}
 use Rattle.rules.specs.Tables.{chain-room}
-use Rattle.rules.specs.Layout.{word-count}
-use Rattle.ends_laws.specs.Loops.{loop, loop-none, loop-more, loop-all}
-use Rattle.ends_laws.specs.Entries.{slide-one, slide}
+use Rattle.rules.specs.Layout.{word}
+use Rattle.ends_laws.specs.Loops.{Turning, turning-none, turning-more, turning-all}
+use Rattle.ends_laws.specs.Entries.{value-place, put-entry, slide-one, slide}
 use Rattle.ends.proofs.objects.slide.Statement.{statement}
 use Rattle.ends.proofs.objects.slide.Tie as tie
 
 abbrev Inv-loop : tie.InvT-loop
-Inv-loop words₀ i k left j₀ words j =
-    (j ≤ chain-room - k) × (length words ≡ word-count) × (words ≡ loop j (slide-one i k) words₀)
+Inv-loop words₀ o k i left j₀ words j = Turning (chain-room - k) (slide-one (o .num) k) words₀ words j
 
 abbrev μ-loop : tie.MeasureT-loop
-μ-loop words₀ i k left j₀ words j = chain-room - k - j
+μ-loop words₀ o k i left j₀ words j = chain-room - k - j
 
 sub-left : tie.Need-sub-left Inv-loop μ-loop
 sub-left c = omega arith
 
 loop-holds : tie.Need-loop-holds Inv-loop μ-loop
-loop-holds c =
-    let start = c .before in
-    (omega arith, start .pre .0, loop-none (slide-one (start .args .i) (start .args .k)) (start .args .words .now))
+loop-holds c = turning-none (c .before .pre .0)
 
 mul-value : tie.Need-mul-value Inv-loop μ-loop
 mul-value c = omega arith
@@ -44,29 +40,14 @@ mul-value-2 c = omega arith
 slice-read-value : tie.Need-slice-read-value Inv-loop μ-loop
 slice-read-value c = omega arith
 
-mul-writer : tie.Need-mul-writer Inv-loop μ-loop
-mul-writer c = omega arith
+add-writer-at : tie.Need-add-writer-at Inv-loop μ-loop
+add-writer-at c = omega arith
 
-add-writer : tie.Need-add-writer Inv-loop μ-loop
-add-writer c = omega arith
-
-add-writer-2 : tie.Need-add-writer-2 Inv-loop μ-loop
-add-writer-2 c = omega arith
-
-add-writer-3 : tie.Need-add-writer-3 Inv-loop μ-loop
-add-writer-3 c = omega arith
-
-mul-writer-2 : tie.Need-mul-writer-2 Inv-loop μ-loop
-mul-writer-2 c = omega arith
-
-slice-read-writer : tie.Need-slice-read-writer Inv-loop μ-loop
-slice-read-writer c = omega arith
+writer-at-requires : tie.Need-writer-at-requires Inv-loop μ-loop
+writer-at-requires c κs = omega arith
 
 set-entry-requires : tie.Need-set-entry-requires Inv-loop μ-loop
-set-entry-requires c κs =
-    let turn = c .before .before .before .before .loop in
-    let start = c .before .before .before .before .before .before in
-    (turn .inv .1, start .pre .1, omega arith)
+set-entry-requires c κs = omega arith
 
 add-j : tie.Need-add-j Inv-loop μ-loop
 add-j c = omega arith
@@ -76,28 +57,21 @@ loop-less c = omega arith
 
 loop-again : tie.Need-loop-again Inv-loop μ-loop
 loop-again c =
-    let turn = c .before .before .before .before .before .before .before .loop in
-    let set-entry-call = c .before .before .set-entry in
-    let start = c .before .before .before .before .before .before .before .before .before in (
-      omega arith,
-      set-entry-call .kept .0 ∙ turn .inv .1,
-      loop-more (turn .j) (slide-one (start .args .i) (start .args .k)) (start .args .words .now) (turn .words)
-          (set-entry-call .last .0)
-          (turn .inv .2) (set-entry-call .ensures),
-    )
+    let call = c .before .before .set-entry in
+    let turn = c .before .before .before .before .before .before .before .before .loop in
+    let a = c .before .before .before .before .before .before .before .before .before .before .args in
+    let vs = turn .words in
+    let value = word vs (value-place (a .o .num) (turn .j + a .k)) in
+    turning-more (turn .inv) (omega arith) (call .kept .0)
+    (subst (λ (y : ℕ). call .last .0 ≡ put-entry (a .o .num) (turn .j) value y vs)
+    (c .before .before .before .before .writer-at .ensures) (call .ensures))
 
 same-length : tie.Need-same-length Inv-loop μ-loop
-same-length c = c .before .loop .inv .1 ∙ sym (c .before .before .before .pre .0)
+same-length c = c .before .loop .inv .size ∙ sym (c .before .before .before .pre .0)
 
 returns : tie.Need-returns Inv-loop μ-loop
 unfolding slide
-returns c =
-    let turn = c .before .loop in
-    let start = c .before .before .before in
-    let k = start .args .k in
-    loop-all (turn .j) (chain-room - k) (slide-one (start .args .i) k) (start .args .words .now) (turn .words)
-    (turn .inv .0)
-    (c .loop-test .left) (turn .inv .2)
+returns c = turning-all (c .before .loop .inv) (c .loop-test .left)
 
 pub slide-spec : {M : Type 1} → statement M
 slide-spec =
@@ -113,12 +87,8 @@ slide-spec =
     add-value-3
     mul-value-2
     slice-read-value
-    mul-writer
-    add-writer
-    add-writer-2
-    add-writer-3
-    mul-writer-2
-    slice-read-writer
+    add-writer-at
+    writer-at-requires
     set-entry-requires
     add-j
     loop-less

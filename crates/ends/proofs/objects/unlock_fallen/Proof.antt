@@ -2,22 +2,33 @@
 -- Assumes nothing.
 use mathlib.Core.List.{List}
 use mathlib.Core.Bool.{Bool, cond}
-use mathlib.Core.Path.{ap, sym, _∙_}
-use Prim.Native.Nat.{ℕ}
+use mathlib.Core.Path.{_≡_, ap, sym, _∙_}
+use Prim.Native.Nat.{ℕ, _+_}
 use borrow.Author.Needs.{needs}
+use Rattle.rules.specs.Layout.{holder-at, word}
 use Rattle.ends_laws.specs.Objects.{unlock}
+use Rattle.ends_laws.specs.Scans.{falls-in}
 use Rattle.ends_laws.specs.Undo.{unlock-fallen}
 use Rattle.ends.proofs.objects.unlock_fallen.Statement.{statement}
 use Rattle.ends.proofs.objects.unlock_fallen.Tie as tie
 
-add-falls : tie.Need-add-falls
-add-falls c = search needs
+abbrev entry : tie.After-falls → tie.Start
+entry c = c .before .before .before .before
 
-mul-falls : tie.Need-mul-falls
-mul-falls c = search needs
+-- whether the holder falls, by the words
+abbrev test : tie.Start → Bool
+test c = falls-in (c .args .words .now) (c .args .f) (word (c .args .words .now) (holder-at + c .args .o .num))
 
-slice-reshared-read-falls : tie.Need-slice-reshared-read-falls
-slice-reshared-read-falls c = search needs
+answer : (c : tie.After-falls) → c .falls .result ≡ test (entry c)
+answer c =
+    let a = entry c .args in
+    c .falls .ensures ∙ ap (falls-in (a .words .now) (a .f)) (c .before .holder .ensures)
+
+abbrev left : tie.Start → Bool → List ℕ
+left c b = cond b (unlock (c .args .o .num) (c .args .words .now)) (c .args .words .now)
+
+holder-requires : tie.Need-holder-requires
+holder-requires c κs = search needs
 
 falls-requires : tie.Need-falls-requires
 falls-requires c κs = search needs
@@ -31,30 +42,21 @@ same-length c = search needs
 returns : tie.Need-returns
 unfolding unlock-fallen
 returns c =
-    let start = c .before .before .before .before .before .before .before .before in
-    let if1 = c .before .before .before .before .if1 in
-    let falls-call = c .before .before .before .before .before .falls in
-    let ws : List ℕ = start .args .words .now in
-    c .before .before .unlock .ensures
-    ∙ ap (λ (b : Bool). cond b (unlock (start .args .i) ws) ws) (sym (if1 .taken) ∙ falls-call .ensures)
+    let tested = c .before .before .before .before in
+    c .before .before .unlock .ensures ∙ ap (left (entry (tested .before))) (sym (tested .if1 .taken) ∙ answer (tested .before))
 
 same-length-2 : tie.Need-same-length-2
 same-length-2 c = search needs
 
 returns-2 : tie.Need-returns-2
 unfolding unlock-fallen
-returns-2 c =
-    let start = c .before .before .before .before in
-    let ws : List ℕ = start .args .words .now in
-    ap (λ (b : Bool). cond b (unlock (start .args .i) ws) ws) (sym (c .if1 .left) ∙ c .before .falls .ensures)
+returns-2 c = ap (left (entry (c .before))) (sym (c .if1 .left) ∙ answer (c .before))
 
 pub unlock-fallen-spec : {M : Type 1} → statement M
 unlock-fallen-spec =
     tie.close
     (tie.spec
-    add-falls
-    mul-falls
-    slice-reshared-read-falls
+    holder-requires
     falls-requires
     unlock-requires
     same-length
