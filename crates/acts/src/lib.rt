@@ -7,81 +7,84 @@ ghost use lib.Dec.{T};
 ghost use lib.ListN.{length};
 ghost use Rattle.rules.specs.Tests.{lowest, lower as lower-of, least};
 ghost use Rattle.rules.specs.Sets.{has};
-ghost use Rattle.rules.specs.Tables.{txn, obj, object-count, place-count, log-room, last-number, object, place, place-of, is-live as is-live-in};
+ghost use Rattle.rules.specs.Tables.{lsn, object-count, place-count, log-room, last-number, object, place, place-of, is-live as is-live-in};
 ghost use Rattle.rules.specs.Falls.{fallen, how-many};
 ghost use Rattle.rules.specs.Steps.{free-places, start as started, access as accessed, read as read-at, write as written, commit as committed, undo, status as status-of};
 ghost use Rattle.rules.specs.Answers.{Refusal, lost, refusal-value as value-of, refusal};
 ghost use Rattle.rules.specs.Frames.{unused-zero};
 ghost use Rattle.rules.specs.Layout.{sound-words, pack, unpack};
 ghost use Rattle.sound_laws.specs.Access.{MayAccess};
-ghost use Rattle.calls.specs.Meaning.{call-of};
+ghost use Rattle.calls.specs.Meaning.{txn-of, lsn-of, obj-of, call-of};
 ghost use Rattle.refusals.specs.Reasons.{reason-of, Decides};
 ghost use Rattle.acts.specs.Acted.{Acted, Placed, Did, is-open, number-or};
 use calls::Answer;
 use calls::Call;
 use calls::Kind;
+use calls::Lsn;
+use calls::Obj;
+use calls::Txn;
 use refusals::Decided;
 use refusals::Why;
 
 // ---- what the words say
 
 // Whether the transaction is live. A free place has the number 0, which names no one.
-fn is_live(words: &[u64], x: u64) -> bool
+fn is_live(words: &[u64], x: Txn) -> bool
     requires { ⌜ T (sound-words (now words)) ⌝ }
-    ensures { λ r. ⌜ r ≡ is-live-in (unpack (now (words .entry)) .live) (txn x) ⌝ }
+    ensures { λ r. ⌜ r ≡ is-live-in (unpack (now (words .entry)) .live) (txn-of x) ⌝ }
 {
-    if x == 0 {
+    if x.num == 0 {
         return false;
     }
     lookups::place_of(words, x) < 32
 }
 
-// 1 for a live transaction, 2 for a committed one, 3 for an aborted one.
-fn status(words: &[u64], x: u64) -> u64
+// 1 for a live transaction, 2 for a committed one, 3 for an aborted one. The log's count is the number of its last record.
+fn status(words: &[u64], x: Txn) -> u64
     requires { ⌜ T (sound-words (now words)) ⌝ }
-    ensures { λ r. ⌜ r ≡ status-of (unpack (now (words .entry))) (txn x) ⌝ }
+    ensures { λ r. ⌜ r ≡ status-of (unpack (now (words .entry))) (txn-of x) ⌝ }
 {
     if is_live(words, x) {
         return 1;
     }
-    if lookups::log_number(words, x) <= words[1] {
-        2
-    } else {
-        3
-    }
+    let number = lookups::log_number(words, x);
+    let last = Lsn { num: words[1] };
+    if number.num <= last.num { 2 } else { 3 }
 }
 
 // The lower of two numbers, where a 0 stands for none.
-fn lower(a: u64, b: u64) -> u64
-    ensures { λ r. ⌜ r ≡ lower-of a b ⌝ }
+fn lower(a: Txn, b: Txn) -> Txn
+    ensures { λ r. ⌜ r .num ≡ lower-of (a .num) (b .num) ⌝ }
 {
-    if a == 0 {
+    if a.num == 0 {
         return b;
     }
-    if b == 0 {
+    if b.num == 0 {
         return a;
     }
-    if a < b { a } else { b }
+    if a.num < b.num { a } else { b }
 }
 
-// The number of the transaction at place p if p is one of the places; 0 where it is not.
-fn number_among(words: &[u64], places: u64, p: u64) -> u64
+// The transaction at place p if p is one of the places; 0, which names nobody, where it is not.
+fn number_among(words: &[u64], places: u64, p: u64) -> Txn
     requires { ⌜ T (sound-words (now words)) × (p < place-count) ⌝ }
-    ensures { λ r. ⌜ r ≡ cond (has places p) (place (unpack (now (words .entry)) .live) p .number .num) 0 ⌝ }
+    ensures { λ r. ⌜ r .num ≡ cond (has places p) (place (unpack (now (words .entry)) .live) p .number .num) 0 ⌝ }
 {
     if sets::has(places, p) {
-        words[514 + p as usize]
+        Txn {
+            num: words[514 + p as usize],
+        }
     } else {
-        0
+        Txn { num: 0 }
     }
 }
 
 // The lowest number among the transactions at the places of a set; 0 where the set is empty.
-fn lowest_number(words: &[u64], places: u64) -> u64
+fn lowest_number(words: &[u64], places: u64) -> Txn
     requires { ⌜ T (sound-words (now words)) ⌝ }
-    ensures { λ r. ⌜ r ≡ least place-count (λ p. cond (has places p) (place (unpack (now (words .entry)) .live) p .number .num) 0) ⌝ }
+    ensures { λ r. ⌜ r .num ≡ least place-count (λ p. cond (has places p) (place (unpack (now (words .entry)) .live) p .number .num) 0) ⌝ }
 {
-    let mut low: u64 = 0;
+    let mut low = Txn { num: 0 };
     for p in 0..32u64 {
         low = lower(low, number_among(words, places, p));
     }
@@ -90,11 +93,14 @@ fn lowest_number(words: &[u64], places: u64) -> u64
 
 // The lowest object that the transaction at place p accessed and has not prepared, or 32 where there is none. What is
 // prepared is accessed, so the difference of the two words is the set of the rest.
-fn first_unprepared(words: &[u64], p: usize) -> u64
+fn first_unprepared(words: &[u64], p: usize) -> Obj
     requires { ⌜ T (sound-words (now words)) × (p < place-count) ⌝ }
-    ensures { λ r. ⌜ r ≡ lowest object-count (is-open (place (unpack (now (words .entry)) .live) p)) ⌝ }
+    ensures { λ r. ⌜ r .num ≡ lowest object-count (is-open (place (unpack (now (words .entry)) .live) p)) ⌝ }
 {
-    sets::lowest((words[546 + p] - words[610 + p]) as u32) as u64
+    let open = (words[546 + p] - words[610 + p]) as u32;
+    Obj {
+        num: sets::lowest(open) as usize,
+    }
 }
 
 // ---- whether the call is done
@@ -112,8 +118,8 @@ fn decide(words: &[u64], c: Call) -> Decided
     ensures { λ r. ⌜ Decides (now (words .entry)) (call-of c) r ⌝ }
 {
     let kind = c.kind;
-    let x = c.who.num;
-    let o = c.what.num;
+    let x = c.who;
+    let o = c.what;
     let v = c.value;
     match kind {
         Kind::Start => refusals::of_start(words),
@@ -128,7 +134,7 @@ fn decide(words: &[u64], c: Call) -> Decided
         Kind::Restart => without_place(Why::Done),
         Kind::Status => Decided {
             why: refusals::of_status(words, x),
-            place: lookups::place_of(words, x as u64),
+            place: lookups::place_of(words, x),
         },
         Kind::Look => without_place(refusals::of_object(o)),
     }
@@ -178,15 +184,15 @@ fn refusal_value(words: &[u64], c: Call, d: Decided) -> u64
 {
     let why = d.why;
     let p = d.place;
-    let x = c.who.num as u64;
-    let o = c.what.num as usize;
+    let x = c.who;
+    let o = c.what;
     match why {
         Why::NoLongerLive => status(words, x),
-        Why::Wait => words[770 + o],
-        Why::Died => words[770 + o],
-        Why::Unprepared => first_unprepared(words, p),
-        Why::Unsaved => refusals::first_unsaved(words, x, p) as u64,
-        Why::DependencyLive => lowest_number(words, words[642 + p]),
+        Why::Wait => lookups::holder(words, o).num,
+        Why::Died => lookups::holder(words, o).num,
+        Why::Unprepared => first_unprepared(words, p).num as u64,
+        Why::Unsaved => refusals::first_unsaved(words, x, p).num as u64,
+        Why::DependencyLive => lowest_number(words, words[642 + p]).num,
         _ => 0,
     }
 }
@@ -225,49 +231,51 @@ fn refuse(words: &mut [u64], c: Call, d: Decided) -> Answer
 // ---- done
 
 // Gives the number that start gives out.
-fn start(words: &mut [u64]) -> u64
+fn start(words: &mut [u64]) -> Txn
     requires { ⌜ T (sound-words (now words)) × (unpack (now words) .next .num ≤ last-number) × (0 < free-places (unpack (now words))) ⌝ }
-    ensures { λ r. ⌜ (r ≡ unpack (now (words .entry)) .next .num) × (now (words .exit) ≡ pack (started (unpack (now (words .entry))))) ⌝ }
+    ensures { λ r. ⌜ (txn-of r ≡ unpack (now (words .entry)) .next) × (now (words .exit) ≡ pack (started (unpack (now (words .entry))))) ⌝ }
 {
-    let next = words[0];
+    let next = Txn { num: words[0] };
     locks::start(words);
     next
 }
 
 // The lock of object o for the transaction x at place p, if it has not accessed the object before.
-fn access(words: &mut [u64], x: u64, p: usize, o: usize)
-    requires { ⌜ T (sound-words (now words)) × MayAccess (unpack (now words)) (txn x) o × (p ≡ place-of (unpack (now words) .live) (txn x)) ⌝ }
-    ensures { λ r. ⌜ now (words .exit) ≡ pack (accessed (unpack (now (words .entry))) (txn x) (obj o)) ⌝ }
+fn access(words: &mut [u64], x: Txn, p: usize, o: Obj)
+    requires { ⌜ T (sound-words (now words)) × MayAccess (unpack (now words)) (txn-of x) (o .num) × (p ≡ place-of (unpack (now words) .live) (txn-of x)) ⌝ }
+    ensures { λ r. ⌜ now (words .exit) ≡ pack (accessed (unpack (now (words .entry))) (txn-of x) (obj-of o)) ⌝ }
 {
-    if !sets::has(words[546 + p], o as u64) {
+    let i = o.num;
+    if !sets::has(words[546 + p], i as u64) {
         locks::lock(words, x, p, o);
     }
 }
 
 // Gives the working value.
-fn read(words: &mut [u64], x: u64, p: usize, o: usize) -> u64
-    requires { ⌜ T (sound-words (now words)) × MayAccess (unpack (now words)) (txn x) o × (p ≡ place-of (unpack (now words) .live) (txn x)) ⌝ }
-    ensures { λ r. ⌜ (r ≡ object (read-at (unpack (now (words .entry))) (txn x) (obj o)) (obj o) .working) × (now (words .exit) ≡ pack (read-at (unpack (now (words .entry))) (txn x) (obj o))) ⌝ }
+fn read(words: &mut [u64], x: Txn, p: usize, o: Obj) -> u64
+    requires { ⌜ T (sound-words (now words)) × MayAccess (unpack (now words)) (txn-of x) (o .num) × (p ≡ place-of (unpack (now words) .live) (txn-of x)) ⌝ }
+    ensures { λ r. ⌜ (r ≡ object (read-at (unpack (now (words .entry))) (txn-of x) (obj-of o)) (obj-of o) .working) × (now (words .exit) ≡ pack (read-at (unpack (now (words .entry))) (txn-of x) (obj-of o))) ⌝ }
 {
+    let i = o.num;
     access(words, x, p, o);
-    words[802 + o]
+    words[802 + i]
 }
 
 // Sets the working value.
-fn write(words: &mut [u64], x: u64, p: usize, o: usize, v: u64)
-    requires { ⌜ T (sound-words (now words)) × MayAccess (unpack (now words)) (txn x) o × (p ≡ place-of (unpack (now words) .live) (txn x)) ⌝ }
-    ensures { λ r. ⌜ now (words .exit) ≡ pack (written (unpack (now (words .entry))) (txn x) (obj o) v) ⌝ }
+fn write(words: &mut [u64], x: Txn, p: usize, o: Obj, v: u64)
+    requires { ⌜ T (sound-words (now words)) × MayAccess (unpack (now words)) (txn-of x) (o .num) × (p ≡ place-of (unpack (now words) .live) (txn-of x)) ⌝ }
+    ensures { λ r. ⌜ now (words .exit) ≡ pack (written (unpack (now (words .entry))) (txn-of x) (obj-of o) v) ⌝ }
 {
     access(words, x, p, o);
     locks::set_working_value(words, x, p, o, v);
 }
 
 // Gives the log number of the record that commit adds.
-fn commit(words: &mut [u64], x: u64, p: usize) -> u64
-    requires { ⌜ T (sound-words (now words)) × T (is-live-in (unpack (now words) .live) (txn x)) × (p ≡ place-of (unpack (now words) .live) (txn x)) × (length (unpack (now words) .log) < log-room) ⌝ }
-    ensures { λ r. ⌜ (r ≡ suc (length (unpack (now (words .entry)) .log))) × (now (words .exit) ≡ pack (committed (unpack (now (words .entry))) (txn x))) ⌝ }
+fn commit(words: &mut [u64], x: Txn, p: usize) -> Lsn
+    requires { ⌜ T (sound-words (now words)) × T (is-live-in (unpack (now words) .live) (txn-of x)) × (p ≡ place-of (unpack (now words) .live) (txn-of x)) × (length (unpack (now words) .log) < log-room) ⌝ }
+    ensures { λ r. ⌜ (lsn-of r ≡ lsn (suc (length (unpack (now (words .entry)) .log)))) × (now (words .exit) ≡ pack (committed (unpack (now (words .entry))) (txn-of x))) ⌝ }
 {
-    let number = words[1] + 1;
+    let number = Lsn { num: words[1] + 1 };
     ends::commit(words, x, p);
     number
 }
@@ -278,11 +286,12 @@ fn give(words: &mut [u64], c: Call, p: usize) -> u64
     ensures { λ r. ⌜ Did (now (words .entry)) (call-of c) r (now (words .exit)) ⌝ }
 {
     let kind = c.kind;
-    let x = c.who.num as u64;
-    let o = c.what.num as usize;
+    let x = c.who;
+    let o = c.what;
+    let i = o.num;
     let v = c.value;
     match kind {
-        Kind::Start => start(words),
+        Kind::Start => start(words).num,
         Kind::Read => read(words, x, p, o),
         Kind::Write => {
             write(words, x, p, o, v);
@@ -293,13 +302,13 @@ fn give(words: &mut [u64], c: Call, p: usize) -> u64
             0
         }
         Kind::Save => locks::save(words, o),
-        Kind::Commit => commit(words, x, p),
+        Kind::Commit => commit(words, x, p).num,
         Kind::Abort => fall(words, p),
         Kind::Settle => ends::settle(words, o),
         Kind::Crash => ends::crash(words, v),
         Kind::Restart => ends::restart(words),
         Kind::Status => status(words, x),
-        Kind::Look => words[674 + o],
+        Kind::Look => words[674 + i],
     }
 }
 

@@ -1,5 +1,5 @@
 // Looking into the tables that sound words hold: who is live and where, who is logged and under which number, which places
-// are free, an object's latest version, who falls with a transaction.
+// are free, who holds an object and what its latest version is, who falls with a transaction.
 ghost use mathlib.Core.Path.{_≡_};
 ghost use mathlib.Core.Bool.{cond};
 ghost use Prim.Native.Nat.{_+_, _^_, _≤_, _<_};
@@ -91,6 +91,17 @@ fn entry_at(words: &[u64], value: usize, writer: usize) -> Entry
     Entry {
         value: words[value],
         writer: Txn { num: words[writer] },
+    }
+}
+
+// Who holds an object.
+pub fn holder(words: &[u64], o: Obj) -> Txn
+    requires { ⌜ T (sound-words (now words)) × (o .num < object-count) ⌝ }
+    ensures { λ r. ⌜ txn-of r ≡ object (unpack (now (words .entry))) (obj-of o) .holder ⌝ }
+{
+    let i = o.num;
+    Txn {
+        num: words[770 + i],
     }
 }
 

@@ -8,7 +8,7 @@ use Prim.Native.Nat.{ℕ, _+_, _≤_, _<_}
 use native.Mathlib.Omega.{arith}
 use lib.Dec.{T}
 use Rattle.rules.specs.Sets.{has}
-use Rattle.rules.specs.Tables.{Live, Tables, obj, object-count, object}
+use Rattle.rules.specs.Tables.{Live, Tables, txn, obj, object-count, object}
 use Rattle.rules.specs.Sound.{sound}
 use Rattle.rules.specs.Answers.{Kind, is-read, is-write, Call, Refusal, after-a-prepare, lost, wait, died, fact}
 use Rattle.rules.specs.Layout.{accessed-at, prepared-at, holder-at, word, unpack}
@@ -25,7 +25,7 @@ use Rattle.refusals.proofs.Deciding.{Alive, asker-is, refuses, allows}
 use Rattle.refusals.proofs.Naming.{Names, reads, writes, named, member, other, holder-read}
 
 -- what is decided for every such kind with the order of read and write is decided for both
-pub both : (ws : List ℕ) (x o : ℕ) (d : Decided) → ((k : Kind) → Names k access-rest → (v : ℕ) → Decides ws (asking k x o v) d) → DecidesAccess ws x o d
+pub both : (ws : List ℕ) (x o : ℕ) (d : Decided) → ((k : Kind) → Names k access-rest → (v : ℕ) → Decides ws (asking k x o v) d) → DecidesAccess ws (txn x) (obj o) d
 both ws x o d f v = (f is-read reads 0, f is-write writes v)
 
 module _ {ws : List ℕ} {x p : ℕ} (n : Alive ws x p) (o : ℕ) (h : o < object-count) (k : Kind) (a : Names k access-rest) (v : ℕ) where

@@ -64,7 +64,7 @@ module _ (ws : List ℕ) (s : T (sound-words ws)) where
       ∙ ap (λ (n : ℕ). row n (entry-in ws i)) (omega arith)
 
   module _ (x : ℕ) where
-    lacks-says : (queued : Bool) (i : ℕ) → i < object-count → lacks-in ws x queued i ≡ not (wrote-one-of (txn x) (entries queued i))
+    lacks-says : (queued : Bool) (i : ℕ) → i < object-count → lacks-in ws (txn x) queued i ≡ not (wrote-one-of (txn x) (entries queued i))
     unfolding lacks-in
     lacks-says queued i h =
         let other : Entry → Bool = λ e. not (same (e .writer) (txn x)) in
@@ -75,10 +75,10 @@ module _ (ws : List ℕ) (s : T (sound-words ws)) where
 
     -- the lowest that lacks an entry by the words does so by the tables
     pub first-lacking-says : (p : ℕ) (e : p ≡ place-of (unpack ws .live) (txn x)) (k : p < place-count) (queued : Bool)
-        → lowest object-count (is-lacking ws x p queued)
+        → lowest object-count (is-lacking ws (txn x) p queued)
         ≡ lowest object-count (λ i. has (asker ws x .written) i && not (wrote-one-of (txn x) (entries queued i)))
     first-lacking-says p e k queued =
-        lowest-same object-count (is-lacking ws x p queued)
+        lowest-same object-count (is-lacking ws (txn x) p queued)
         (λ i. has (asker ws x .written) i && not (wrote-one-of (txn x) (entries queued i)))
         (λ i h. ap₂ _&&_ (ap (λ (l : Live). has (l .written) i) (asker-read ws s x p e k)) (lacks-says queued i h))
 
@@ -93,14 +93,14 @@ module _ (ws : List ℕ) (x : ℕ) (queued : Bool) (i : ℕ) where
   other j = not (eqb (writer ws i j) x)
 
   -- an entry of x, or none
-  pub entry-met : (j : ℕ) → j < counted-in ws queued i → writer ws i j ≡ x → false ≡ lacks-in ws x queued i
+  pub entry-met : (j : ℕ) → j < counted-in ws queued i → writer ws i j ≡ x → false ≡ lacks-in ws (txn x) queued i
   unfolding lacks-in
   entry-met j h e =
       sym
       (is-false (every (counted-in ws queued i) other)
       (λ t. not-says (eqb (writer ws i j) x) .0 (every-at (counted-in ws queued i) other t j h) (equal-says (writer ws i j) x .1 e)))
 
-  pub none-met : ((j : ℕ) → j < counted-in ws queued i → writer ws i j ≡ x → ⊥) → true ≡ lacks-in ws x queued i
+  pub none-met : ((j : ℕ) → j < counted-in ws queued i → writer ws i j ≡ x → ⊥) → true ≡ lacks-in ws (txn x) queued i
   unfolding lacks-in
   none-met f =
       sym

@@ -5,7 +5,7 @@ use mathlib.Core.List.{List}
 use mathlib.Core.Option.{Option, none, some}
 use Prim.Native.Nat.{ℕ}
 use lib.Dec.{T}
-use Rattle.rules.specs.Tables.{txn, obj, is-live, place-of}
+use Rattle.rules.specs.Tables.{Txn, Obj, txn, obj, nobody, is-live, place-of}
 use Rattle.rules.specs.Answers.{Kind, is-read, is-write, is-save, is-settle, is-look, Call, Refusal, no-such-object, never-given-out, no-longer-live, after-a-prepare, lost, wait, died, not-accessed, prepared-before, chain-full, unprepared, unsaved, dependency-live, log-full, places-full, numbers-spent, refusal}
 use Rattle.rules.specs.Layout.{unpack, sound-words}
 use Rattle.refusals.specs.declared.Why.{Why}
@@ -32,8 +32,12 @@ reason-of PlacesFull = some places-full
 reason-of NumbersSpent = some numbers-spent
 
 -- a call, by its kind and fields
+abbrev pub calling : Kind → Txn → Obj → ℕ → Call
+calling k x o v = record { kind = k; who = x; what = o; value = v }
+
+-- a call, by its kind and the numbers in its fields
 abbrev pub asking : Kind → ℕ → ℕ → ℕ → Call
-asking k x o v = record { kind = k; who = txn x; what = obj o; value = v }
+asking k x o v = calling k (txn x) (obj o) v
 
 -- the reason is the rules', and the place is that of the transaction named where it is live
 pub record Decides (ws : List ℕ) (c : Call) (d : Decided) : Type 0 where
@@ -41,13 +45,13 @@ pub record Decides (ws : List ℕ) (c : Call) (d : Decided) : Type 0 where
   pub at : T (is-live (unpack ws .live) (c .who)) → d .place ≡ place-of (unpack ws .live) (c .who)
 
 -- read and write are decided alike, whatever the value written
-abbrev pub DecidesAccess : List ℕ → ℕ → ℕ → Decided → Type 0
-DecidesAccess ws x o d = (v : ℕ) → Decides ws (asking is-read x o 0) d × Decides ws (asking is-write x o v) d
+abbrev pub DecidesAccess : List ℕ → Txn → Obj → Decided → Type 0
+DecidesAccess ws x o d = (v : ℕ) → Decides ws (calling is-read x o 0) d × Decides ws (calling is-write x o v) d
 
 -- save, settle and look are decided alike on sound words
-abbrev pub DecidesObject : ℕ → Why → Type 0
+abbrev pub DecidesObject : Obj → Why → Type 0
 DecidesObject o w =
     (ws : List ℕ) → T (sound-words ws)
-    → (reason-of w ≡ refusal (unpack ws) (asking is-save 0 o 0))
-    × (reason-of w ≡ refusal (unpack ws) (asking is-settle 0 o 0))
-    × (reason-of w ≡ refusal (unpack ws) (asking is-look 0 o 0))
+    → (reason-of w ≡ refusal (unpack ws) (calling is-save nobody o 0))
+    × (reason-of w ≡ refusal (unpack ws) (calling is-settle nobody o 0))
+    × (reason-of w ≡ refusal (unpack ws) (calling is-look nobody o 0))

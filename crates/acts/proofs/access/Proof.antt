@@ -20,21 +20,21 @@ use Rattle.acts.proofs.access.Tie as tie
 
 -- the transaction's place is one
 at-place : (c : tie.Start) → c .args .p < place-count
-at-place c = omega (arith, live-at (unpack (c .args .words .now) .live) (txn (c .args .x)) (c .pre .1 .live) .below, c .pre .2)
+at-place c = omega (arith, live-at (unpack (c .args .words .now) .live) (txn (c .args .x .num)) (c .pre .1 .live) .below, c .pre .2)
 
 -- the tables as they were, or with the lock taken
 abbrev either : tie.Start → Bool → Tables
 either c b =
     let t = unpack (c .args .words .now) in
-    cond b t (take-lock t (txn (c .args .x)) (obj (c .args .o)))
+    cond b t (take-lock t (txn (c .args .x .num)) (obj (c .args .o .num)))
 
 -- which of them, by the word
-by-test : (c : tie.Start) → access (unpack (c .args .words .now)) (txn (c .args .x)) (obj (c .args .o))
-    ≡ either c (has (word (c .args .words .now) (accessed-at + c .args .p)) (c .args .o))
+by-test : (c : tie.Start) → access (unpack (c .args .words .now)) (txn (c .args .x .num)) (obj (c .args .o .num))
+    ≡ either c (has (word (c .args .words .now) (accessed-at + c .args .p)) (c .args .o .num))
 unfolding access
 by-test c =
     let ws = c .args .words .now in
-    ap (λ (l : Live). either c (has (l .accessed) (c .args .o)))
+    ap (λ (l : Live). either c (has (l .accessed) (c .args .o .num)))
     (ap (place (unpack ws .live)) (sym (c .pre .2)) ∙ place-read ws (c .args .p) (at-place c))
 
 add-has : tie.Need-add-has

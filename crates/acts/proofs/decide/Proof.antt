@@ -92,9 +92,6 @@ enum-told-11 c = search needs
 of-status-requires : tie.Need-of-status-requires
 of-status-requires c κs = search needs
 
-cast-place-of : tie.Need-cast-place-of
-cast-place-of c = search needs
-
 place-of-requires : tie.Need-place-of-requires
 place-of-requires c κs = search needs
 
@@ -110,77 +107,77 @@ without-place-requires-5 c κs = search needs
 returns : tie.Need-returns
 unfolding fields-of
 returns c =
-    let start : tie.Start = c .before .before .before .before in
+    let start : tie.Start = c .before .before .before .before .before .before in
     decided (start .args .words .now) (call-of (start .args .c)) is-start (c .of-start .result) (ap kind-of (c .before .enum-told .given .1)) (start .pre .1)
     (c .of-start .ensures)
 
 returns-2 : tie.Need-returns-2
 unfolding fields-of
 returns-2 c =
-    let start : tie.Start = c .before .before .before .before in
+    let start : tie.Start = c .before .before .before .before .before .before in
     decided (start .args .words .now) (call-of (start .args .c)) is-read (c .of-access .result) (ap kind-of (c .before .enum-told2 .given .1)) (start .pre .1)
     (c .of-access .ensures 0 .0)
 
 returns-3 : tie.Need-returns-3
 unfolding fields-of
 returns-3 c =
-    let start : tie.Start = c .before .before .before .before in
+    let start : tie.Start = c .before .before .before .before .before .before in
     decided (start .args .words .now) (call-of (start .args .c)) is-write (c .of-access2 .result) (ap kind-of (c .before .enum-told3 .given .1)) (start .pre .1)
     (c .of-access2 .ensures (start .args .c .value) .1)
 
 returns-4 : tie.Need-returns-4
 unfolding fields-of
 returns-4 c =
-    let start : tie.Start = c .before .before .before .before in
+    let start : tie.Start = c .before .before .before .before .before .before in
     decided (start .args .words .now) (call-of (start .args .c)) is-prepare (c .of-prepare .result) (ap kind-of (c .before .enum-told4 .given .1)) (start .pre .1)
     (c .of-prepare .ensures)
 
 returns-5 : tie.Need-returns-5
 unfolding fields-of
 returns-5 c =
-    let start : tie.Start = c .before .before .before .before .before in
+    let start : tie.Start = c .before .before .before .before .before .before .before in
     decided (start .args .words .now) (call-of (start .args .c)) is-save (c .without-place .result) (ap kind-of (c .before .before .enum-told5 .given .1)) (start .pre .1)
     (record { reason = ap reason-of (c .without-place .ensures) ∙ c .before .of-object .ensures (start .args .words .now) (start .pre .0) .0; at = λ u. absurd (nobody-not-live (unpack (start .args .words .now) .live) (txn 0) refl u) })
 
 returns-6 : tie.Need-returns-6
 unfolding fields-of
 returns-6 c =
-    let start : tie.Start = c .before .before .before .before in
+    let start : tie.Start = c .before .before .before .before .before .before in
     decided (start .args .words .now) (call-of (start .args .c)) is-commit (c .of-commit .result) (ap kind-of (c .before .enum-told6 .given .1)) (start .pre .1)
     (c .of-commit .ensures)
 
 returns-7 : tie.Need-returns-7
 unfolding fields-of
 returns-7 c =
-    let start : tie.Start = c .before .before .before .before in
+    let start : tie.Start = c .before .before .before .before .before .before in
     decided (start .args .words .now) (call-of (start .args .c)) is-abort (c .of-abort .result) (ap kind-of (c .before .enum-told7 .given .1)) (start .pre .1)
     (c .of-abort .ensures)
 
 returns-8 : tie.Need-returns-8
 unfolding fields-of
 returns-8 c =
-    let start : tie.Start = c .before .before .before .before .before in
+    let start : tie.Start = c .before .before .before .before .before .before .before in
     decided (start .args .words .now) (call-of (start .args .c)) is-settle (c .without-place2 .result) (ap kind-of (c .before .before .enum-told8 .given .1)) (start .pre .1)
     (record { reason = ap reason-of (c .without-place2 .ensures) ∙ c .before .of-object2 .ensures (start .args .words .now) (start .pre .0) .1; at = λ u. absurd (nobody-not-live (unpack (start .args .words .now) .live) (txn 0) refl u) })
 
 returns-9 : tie.Need-returns-9
 unfolding fields-of
 returns-9 c =
-    let start : tie.Start = c .before .before .before .before .before in
+    let start : tie.Start = c .before .before .before .before .before .before .before in
     decided (start .args .words .now) (call-of (start .args .c)) is-crash (c .without-place3 .result) (ap kind-of (c .before .before .enum-told9 .given .1)) (start .pre .1)
     (record { reason = ap reason-of (c .without-place3 .ensures) ∙ c .before .of-set .ensures (start .args .words .now) (start .pre .0); at = λ u. absurd (nobody-not-live (unpack (start .args .words .now) .live) (txn 0) refl u) })
 
 returns-10 : tie.Need-returns-10
 unfolding fields-of order
 returns-10 c =
-    let start : tie.Start = c .before .before .before .before in
+    let start : tie.Start = c .before .before .before .before .before .before in
     decided (start .args .words .now) (call-of (start .args .c)) is-restart (c .without-place4 .result) (ap kind-of (c .before .enum-told10 .given .1)) (start .pre .1)
     (record { reason = ap reason-of (c .without-place4 .ensures) ∙ sym (done-why (unpack (start .args .words .now)) (asking is-restart 0 0 0) (restart-none (unpack (start .args .words .now)) (unpacked-sound (start .args .words .now) (start .pre .0)) (asking is-restart 0 0 0))); at = λ u. absurd (nobody-not-live (unpack (start .args .words .now) .live) (txn 0) refl u) })
 
 returns-11 : tie.Need-returns-11
 unfolding fields-of
 returns-11 c =
-    let start : tie.Start = c .before .before .before .before .before in
+    let start : tie.Start = c .before .before .before .before .before .before .before in
     decided (start .args .words .now) (call-of (start .args .c)) is-status (record { why = c .before .of-status .result; place = c .place-of .result })
     (ap kind-of (c .before .before .enum-told11 .given .1)) (start .pre .1)
     (record { reason = c .before .of-status .ensures; at = λ u. c .place-of .ensures })
@@ -188,7 +185,7 @@ returns-11 c =
 returns-12 : tie.Need-returns-12
 unfolding fields-of
 returns-12 c =
-    let start : tie.Start = c .before .before .before .before .before in
+    let start : tie.Start = c .before .before .before .before .before .before .before in
     decided (start .args .words .now) (call-of (start .args .c)) is-look (c .without-place5 .result) (ap kind-of (c .before .before .enum-told12 .given .1)) (start .pre .1)
     (record { reason = ap reason-of (c .without-place5 .ensures) ∙ c .before .of-object3 .ensures (start .args .words .now) (start .pre .0) .2; at = λ u. absurd (nobody-not-live (unpack (start .args .words .now) .live) (txn 0) refl u) })
 
@@ -221,7 +218,6 @@ decide-spec =
     without-place-requires-4
     enum-told-11
     of-status-requires
-    cast-place-of
     place-of-requires
     enum-told-12
     of-object-requires-3

@@ -38,35 +38,35 @@ rests c =
     } in
     subst (λ (k : Live). Rests (k .accessed) (k .prepared) l) (place-read ws p (c .pre .1)) here
 
-add-lowest : tie.Need-add-lowest
-add-lowest c = search needs
+add-open : tie.Need-add-open
+add-open c = search needs
 
-mul-lowest : tie.Need-mul-lowest
-mul-lowest c = search needs
+mul-open : tie.Need-mul-open
+mul-open c = search needs
 
-shared-slice-read-lowest : tie.Need-shared-slice-read-lowest
-shared-slice-read-lowest c = omega (arith, fitting (c .before .before .args .words .now) (c .before .before .pre .0))
+shared-slice-read-open : tie.Need-shared-slice-read-open
+shared-slice-read-open c = omega (arith, fitting (c .before .before .args .words .now) (c .before .before .pre .0))
 
-add-lowest-2 : tie.Need-add-lowest-2
-add-lowest-2 c = search needs
+add-open-2 : tie.Need-add-open-2
+add-open-2 c = search needs
 
-mul-lowest-2 : tie.Need-mul-lowest-2
-mul-lowest-2 c = search needs
+mul-open-2 : tie.Need-mul-open-2
+mul-open-2 c = search needs
 
-shared-slice-read-lowest-2 : tie.Need-shared-slice-read-lowest-2
-shared-slice-read-lowest-2 c = omega (arith, fitting (c .before .before .before .args .words .now) (c .before .before .before .pre .0))
+shared-slice-read-open-2 : tie.Need-shared-slice-read-open-2
+shared-slice-read-open-2 c = omega (arith, fitting (c .before .before .before .args .words .now) (c .before .before .before .pre .0))
 
-sub-lowest : tie.Need-sub-lowest
-sub-lowest c = rests (c .before .before .before) .fits-in
+sub-open : tie.Need-sub-open
+sub-open c = rests (c .before .before .before) .fits-in
 
-cast-lowest : tie.Need-cast-lowest
-cast-lowest c = record { fits = rests (c .before .before .before) .small }
+cast-open : tie.Need-cast-open
+cast-open c = record { fits = rests (c .before .before .before) .small }
 
 lowest-requires : tie.Need-lowest-requires
 lowest-requires c κs = search needs
 
-cast-result : tie.Need-cast-result
-cast-result c = search needs
+cast-t4 : tie.Need-cast-t4
+cast-t4 c = search needs
 
 returns : tie.Need-returns
 returns c = c .lowest .ensures ∙ rests (c .before .before .before .before) .lowest-is
@@ -75,14 +75,14 @@ pub first-unprepared-spec : {M : Type 1} → statement M
 first-unprepared-spec =
     tie.close
     (tie.spec
-    add-lowest
-    mul-lowest
-    shared-slice-read-lowest
-    add-lowest-2
-    mul-lowest-2
-    shared-slice-read-lowest-2
-    sub-lowest
-    cast-lowest
+    add-open
+    mul-open
+    shared-slice-read-open
+    add-open-2
+    mul-open-2
+    shared-slice-read-open-2
+    sub-open
+    cast-open
     lowest-requires
-    cast-result
+    cast-t4
     returns)

@@ -6,7 +6,7 @@ use Prim.Native.Nat.{ℕ, _<_}
 use native.Mathlib.Omega.{arith}
 use borrow.Author.Needs.{needs}
 use lib.Dec.{T}
-use Rattle.rules.specs.Tables.{Tables, object-count, place-count, is-live}
+use Rattle.rules.specs.Tables.{Txn, Lsn, Tables, object-count, place-count, is-live}
 use Rattle.rules.specs.Falls.{fallen, how-many}
 use Rattle.rules.specs.Steps.{undo, abort, fall-count, look}
 use Rattle.rules.specs.Answers.{Kind, is-start, is-read, is-write, is-prepare, is-save, is-commit, is-abort, is-settle, is-crash, is-restart, is-status, is-look, Call, done-value, done-leaves}
@@ -44,12 +44,6 @@ at-place c live = omega (arith, c .pre .2 live, live-at (tables c .live) (asked 
 
 looked : (c : tie.Start) → kind c ≡ is-look → asked c .what .num < object-count
 looked c e = look-object (tables c) (asked c) (sound-at c) e (c .pre .1)
-
-cast-x : tie.Need-cast-x
-cast-x c = search needs
-
-cast-o : tie.Need-cast-o
-cast-o c = search needs
 
 enum-told : tie.Need-enum-told
 enum-told c = search needs
@@ -158,10 +152,10 @@ enum-told-12 : tie.Need-enum-told-12
 enum-told-12 c = search needs
 
 add-result : tie.Need-add-result
-add-result c = search needs
+add-result c = omega (arith, looked (c .before .before .before .before .before) (ap kind-of (c .enum-told12 .given .1)))
 
 mul-result : tie.Need-mul-result
-mul-result c = search needs
+mul-result c = omega (arith, looked (c .before .before .before .before .before) (ap kind-of (c .enum-told12 .given .1)))
 
 slice-read-result : tie.Need-slice-read-result
 slice-read-result c = omega (arith, fitting (c .before .before .before .before .before .before .args .words .now) (c .before .before .before .before .before .before .pre .0), looked (c .before .before .before .before .before .before) (ap kind-of (c .before .enum-told12 .given .1)))
@@ -173,7 +167,7 @@ returns : tie.Need-returns
 unfolding done-value done-leaves
 returns c =
     let start : tie.Start = c .before .before .before .before .before .before .before .before .before in
-    did (start .args .words .now) (asked start) is-start (ap kind-of (c .before .before .before .before .enum-told .given .1)) _ _ (c .before .before .start .ensures .0) (c .before .before .start .ensures .1)
+    did (start .args .words .now) (asked start) is-start (ap kind-of (c .before .before .before .before .enum-told .given .1)) _ _ (ap (λ (x : Txn). x .num) (c .before .before .start .ensures .0)) (c .before .before .start .ensures .1)
 
 same-length-2 : tie.Need-same-length-2
 same-length-2 c = search needs
@@ -218,7 +212,7 @@ returns-6 : tie.Need-returns-6
 unfolding done-value done-leaves
 returns-6 c =
     let start : tie.Start = c .before .before .before .before .before .before .before .before .before in
-    did (start .args .words .now) (asked start) is-commit (ap kind-of (c .before .before .before .before .enum-told6 .given .1)) _ _ (c .before .before .commit .ensures .0) (c .before .before .commit .ensures .1)
+    did (start .args .words .now) (asked start) is-commit (ap kind-of (c .before .before .before .before .enum-told6 .given .1)) _ _ (ap (λ (n : Lsn). n .num) (c .before .before .commit .ensures .0)) (c .before .before .commit .ensures .1)
 
 same-length-7 : tie.Need-same-length-7
 same-length-7 c = search needs
@@ -282,8 +276,6 @@ pub give-spec : {M : Type 1} → statement M
 give-spec =
     tie.close
     (tie.spec
-    cast-x
-    cast-o
     enum-told
     start-requires
     enum-told-2

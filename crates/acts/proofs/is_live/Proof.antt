@@ -14,9 +14,9 @@ use Rattle.acts.proofs.is_live.Tie as tie
 
 returns : tie.Need-returns
 returns c =
-    let a = c .before .before .args in
+    let a = c .before .before .before .args in
     let ls = unpack (a .words .now) .live in
-    sym (is-false (is-live ls (txn (a .x))) (nobody-not-live ls (txn (a .x)) (c .if1 .taken)))
+    sym (is-false (is-live ls (txn (a .x .num))) (nobody-not-live ls (txn (a .x .num)) (c .if1 .taken)))
 
 place-of-requires : tie.Need-place-of-requires
 place-of-requires c κs = search needs

@@ -17,7 +17,7 @@ abbrev among : List ℕ → ℕ → ℕ → ℕ
 among ws places p = cond (has places p) (place (unpack ws .live) p .number .num) 0
 
 abbrev Inv-loop : tie.InvT-loop
-Inv-loop words places low₀ p₀ low p = (p ≤ place-count) × (low ≡ least p (among words places))
+Inv-loop words places low₀ p₀ low p = (p ≤ place-count) × (low .num ≡ least p (among words places))
 
 abbrev μ-loop : tie.MeasureT-loop
 μ-loop words places low₀ p₀ low p = place-count - p

@@ -15,14 +15,14 @@ use Rattle.acts.proofs.number_among.Tie as tie
 has-requires : tie.Need-has-requires
 has-requires c κs = search needs
 
-add-result : tie.Need-add-result
-add-result c = search needs
+add-t7 : tie.Need-add-t7
+add-t7 c = search needs
 
-mul-result : tie.Need-mul-result
-mul-result c = search needs
+mul-t8 : tie.Need-mul-t8
+mul-t8 c = search needs
 
-shared-slice-read-result : tie.Need-shared-slice-read-result
-shared-slice-read-result c =
+shared-slice-read-t10 : tie.Need-shared-slice-read-t10
+shared-slice-read-t10 c =
     let start : tie.Start = c .before .before .before .before in
     omega (arith, fitting (start .args .words .now) (start .pre .0))
 
@@ -43,4 +43,4 @@ returns-2 c =
 pub number-among-spec : {M : Type 1} → statement M
 number-among-spec =
     tie.close
-    (tie.spec has-requires add-result mul-result shared-slice-read-result returns returns-2)
+    (tie.spec has-requires add-t7 mul-t8 shared-slice-read-t10 returns returns-2)

@@ -26,7 +26,7 @@ mul-result c = omega (arith, c .before .before .before .before .before .pre .1 .
 slice-read-result : tie.Need-slice-read-result
 slice-read-result c =
     let start : tie.Start = c .before .before .before .before .before .before in
-    let after : Tables = access (unpack (start .args .words .now)) (txn (start .args .x)) (obj (start .args .o)) in
+    let after : Tables = access (unpack (start .args .words .now)) (txn (start .args .x .num)) (obj (start .args .o .num)) in
     omega (arith, ap length (c .before .before .before .access .ensures), pack-length after, start .pre .1 .below)
 
 same-length : tie.Need-same-length
@@ -36,8 +36,8 @@ returns : tie.Need-returns
 unfolding read
 returns c =
     let start : tie.Start = c .before .before .before .before .before .before in
-    let o : ℕ = start .args .o in
-    let after : Tables = access (unpack (start .args .words .now)) (txn (start .args .x)) (obj o) in
+    let o : ℕ = start .args .o .num in
+    let after : Tables = access (unpack (start .args .words .now)) (txn (start .args .x .num)) (obj o) in
     let left = c .before .before .before .access .ensures in
     (ap (λ (ws : List ℕ). word ws (working-at + o)) left ∙ pack-says after .column working o (start .pre .1 .below), left)
 

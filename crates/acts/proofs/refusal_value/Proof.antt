@@ -10,10 +10,10 @@ use borrow.Author.Needs.{needs}
 use lib.Dec.{T}
 use Rattle.rules.specs.Tests.{lowest, least}
 use Rattle.rules.specs.Sets.{has}
-use Rattle.rules.specs.Tables.{Tables, object-count, place-count, place, is-live}
+use Rattle.rules.specs.Tables.{Txn, Tables, object-count, place-count, place, is-live}
 use Rattle.rules.specs.Answers.{Call, Refusal, no-longer-live, lost, wait, died, unprepared, unsaved, dependency-live, refusal-value, refusal}
 use Rattle.rules.specs.Layout.{unpack}
-use Rattle.words_laws.specs.Says.{holder, depends}
+use Rattle.words_laws.specs.Says.{depends}
 use Rattle.words_laws.specs.Words.{sound-words-say}
 use Rattle.sound_laws.specs.Live.{live-at}
 use Rattle.calls.specs.Meaning.{call-of}
@@ -51,12 +51,6 @@ given-for c r a v h q e f =
     let same : r ≡ q = cc in
     subst (λ (p : Refusal). v ≡ refusal-value p (tables c) (asked c)) same h
 
-cast-x : tie.Need-cast-x
-cast-x c = search needs
-
-cast-o : tie.Need-cast-o
-cast-o c = search needs
-
 enum-told : tie.Need-enum-told
 enum-told c = search needs
 
@@ -66,26 +60,18 @@ status-requires c κs = search needs
 enum-told-2 : tie.Need-enum-told-2
 enum-told-2 c = search needs
 
-add-result : tie.Need-add-result
-add-result c = search needs
-
-mul-result : tie.Need-mul-result
-mul-result c = search needs
-
-shared-slice-read-result : tie.Need-shared-slice-read-result
-shared-slice-read-result c = omega (arith, fitting (c .before .before .before .before .before .before .args .words .now) (c .before .before .before .before .before .before .pre .0), wait-object _ _ (is-reason (c .before .before .before .before .before .before) wait (ap reason-of (c .before .enum-told2 .given .1))))
+holder-requires : tie.Need-holder-requires
+holder-requires c κs =
+    let start : tie.Start = c .before .before .before .before .before in
+    (start .pre .0, wait-object _ _ (is-reason start wait (ap reason-of (c .enum-told2 .given .1))))
 
 enum-told-3 : tie.Need-enum-told-3
 enum-told-3 c = search needs
 
-add-result-2 : tie.Need-add-result-2
-add-result-2 c = search needs
-
-mul-result-2 : tie.Need-mul-result-2
-mul-result-2 c = search needs
-
-shared-slice-read-result-2 : tie.Need-shared-slice-read-result-2
-shared-slice-read-result-2 c = omega (arith, fitting (c .before .before .before .before .before .before .args .words .now) (c .before .before .before .before .before .before .pre .0), died-object _ _ (is-reason (c .before .before .before .before .before .before) died (ap reason-of (c .before .enum-told3 .given .1))))
+holder-requires-2 : tie.Need-holder-requires-2
+holder-requires-2 c κs =
+    let start : tie.Start = c .before .before .before .before .before in
+    (start .pre .0, died-object _ _ (is-reason start died (ap reason-of (c .enum-told3 .given .1))))
 
 enum-told-4 : tie.Need-enum-told-4
 enum-told-4 c = search needs
@@ -128,14 +114,14 @@ unfolding refusal-value
 returns-2 c =
     let start : tie.Start = c .before .before .before .before .before .before in
     let told = ap reason-of (c .before .enum-told2 .given .1) in
-    given-for start wait told _ (sound-words-say (start .args .words .now) (start .pre .0) .column holder _ (wait-object _ _ (is-reason start wait told)))
+    given-for start wait told _ (ap (λ (x : Txn). x .num) (c .holder .ensures))
 
 returns-3 : tie.Need-returns-3
 unfolding refusal-value
 returns-3 c =
     let start : tie.Start = c .before .before .before .before .before .before in
     let told = ap reason-of (c .before .enum-told3 .given .1) in
-    given-for start died told _ (sound-words-say (start .args .words .now) (start .pre .0) .column holder _ (died-object _ _ (is-reason start died told)))
+    given-for start died told _ (ap (λ (x : Txn). x .num) (c .holder2 .ensures))
 
 returns-4 : tie.Need-returns-4
 unfolding refusal-value
@@ -176,18 +162,12 @@ pub refusal-value-spec : {M : Type 1} → statement M
 refusal-value-spec =
     tie.close
     (tie.spec
-    cast-x
-    cast-o
     enum-told
     status-requires
     enum-told-2
-    add-result
-    mul-result
-    shared-slice-read-result
+    holder-requires
     enum-told-3
-    add-result-2
-    mul-result-2
-    shared-slice-read-result-2
+    holder-requires-2
     enum-told-4
     first-unprepared-requires
     enum-told-5

@@ -57,7 +57,9 @@ enum-told : tie.Need-enum-told
 enum-told c = search needs
 
 fall-requires : tie.Need-fall-requires
-fall-requires c κs = (c .before .before .before .before .before .pre .0, at-place (c .before .before .before .before .before) (lost-live _ _ (is-reason (c .before .before .before .before .before) lost (ap reason-of (c .before .enum-told .given .1)))))
+fall-requires c κs =
+    let start : tie.Start = c .before .before .before .before .before in
+    (start .pre .0, omega (arith, at-place start (lost-live _ _ (is-reason start lost (ap reason-of (c .before .enum-told .given .1))))))
 
 enum-told-2 : tie.Need-enum-told-2
 enum-told-2 c = search needs
@@ -66,7 +68,9 @@ refusal-value-requires : tie.Need-refusal-value-requires
 refusal-value-requires c κs = search needs
 
 fall-requires-2 : tie.Need-fall-requires-2
-fall-requires-2 c κs = (c .before .before .before .before .before .before .before .pre .0, at-place (c .before .before .before .before .before .before .before) (died-live _ _ (is-reason (c .before .before .before .before .before .before .before) died (ap reason-of (c .before .before .before .enum-told2 .given .1)))))
+fall-requires-2 c κs =
+    let start : tie.Start = c .before .before .before .before .before .before .before in
+    (start .pre .0, omega (arith, at-place start (died-live _ _ (is-reason start died (ap reason-of (c .before .before .before .enum-told2 .given .1))))))
 
 refusal-value-requires-2 : tie.Need-refusal-value-requires-2
 refusal-value-requires-2 c κs = search needs

@@ -7,7 +7,7 @@ use Prim.Native.Nat.{_≤_, _<_}
 use native.Mathlib.Omega.{arith}
 use borrow.Author.Needs.{needs}
 use lib.ListN.{length}
-use Rattle.rules.specs.Tables.{Tables, Txn, txn, log-number, is-live, is-logged}
+use Rattle.rules.specs.Tables.{Tables, Txn, Lsn, txn, log-number, is-live, is-logged}
 use Rattle.rules.specs.Steps.{status}
 use Rattle.rules.specs.Layout.{unpack}
 use Rattle.basics.specs.Logic.{at-most-says, is-true, is-false}
@@ -42,27 +42,27 @@ is-live-requires c κs = search needs
 returns : tie.Need-returns
 returns c =
     let start : tie.Start = c .before .before .before in
-    live-status (unpack (start .args .words .now)) (txn (start .args .x)) (sym (c .before .is-live .ensures) ∙ c .if1 .taken)
+    live-status (unpack (start .args .words .now)) (txn (start .args .x .num)) (sym (c .before .is-live .ensures) ∙ c .if1 .taken)
 
 log-number-requires : tie.Need-log-number-requires
 log-number-requires c κs = search needs
 
-shared-slice-read-if2 : tie.Need-shared-slice-read-if2
-shared-slice-read-if2 c = omega (arith, fitting (c .before .before .before .before .before .args .words .now) (c .before .before .before .before .before .pre))
+shared-slice-read-t7 : tie.Need-shared-slice-read-t7
+shared-slice-read-t7 c = omega (arith, fitting (c .before .before .before .before .before .args .words .now) (c .before .before .before .before .before .pre))
 
 returns-2 : tie.Need-returns-2
 returns-2 c =
-    let start : tie.Start = c .before .before .before .before .before .before in
+    let start : tie.Start = c .before .before .before .before .before .before .before .before in
     let t = unpack (start .args .words .now) in
-    logged-status t (txn (start .args .x)) (sym (c .before .before .before .before .is-live .ensures) ∙ c .before .before .before .if1 .left)
-    (omega (arith, c .if2 .taken, c .before .before .log-number .ensures, sound-words-say (start .args .words .now) (start .pre) .log-count))
+    logged-status t (txn (start .args .x .num)) (sym (c .before .before .before .before .before .before .is-live .ensures) ∙ c .before .before .before .before .before .if1 .left)
+    (omega (arith, c .if2 .taken, ap (λ (n : Lsn). n .num) (c .before .before .before .before .log-number .ensures), sound-words-say (start .args .words .now) (start .pre) .log-count))
 
 returns-3 : tie.Need-returns-3
 returns-3 c =
-    let start : tie.Start = c .before .before .before .before .before .before in
+    let start : tie.Start = c .before .before .before .before .before .before .before .before in
     let t = unpack (start .args .words .now) in
-    gone-status t (txn (start .args .x)) (sym (c .before .before .before .before .is-live .ensures) ∙ c .before .before .before .if1 .left)
-    (omega (arith, c .if2 .left, c .before .before .log-number .ensures, sound-words-say (start .args .words .now) (start .pre) .log-count))
+    gone-status t (txn (start .args .x .num)) (sym (c .before .before .before .before .before .before .is-live .ensures) ∙ c .before .before .before .before .before .if1 .left)
+    (omega (arith, c .if2 .left, ap (λ (n : Lsn). n .num) (c .before .before .before .before .log-number .ensures), sound-words-say (start .args .words .now) (start .pre) .log-count))
 
 pub status-spec : {M : Type 1} → statement M
 status-spec =
@@ -71,6 +71,6 @@ status-spec =
     is-live-requires
     returns
     log-number-requires
-    shared-slice-read-if2
+    shared-slice-read-t7
     returns-2
     returns-3)

@@ -24,8 +24,8 @@ set-working-value-requires : tie.Need-set-working-value-requires
 set-working-value-requires c κs =
     let start : tie.Start = c .before .before .before .before .before .before in
     let ws = start .args .words .now in
-    let x = txn (start .args .x) in
-    let o : ℕ = start .args .o in
+    let x = txn (start .args .x .num) in
+    let o : ℕ = start .args .o .num in
     let may = start .pre .1 in
     let s = start .pre .0 in
     subst (Ready x (start .args .p) o) (sym (c .before .before .before .access .ensures))
@@ -39,8 +39,8 @@ unfolding write
 returns c =
     let start : tie.Start = c .before .before .before .before .before .before .before .before .before in
     let ws = start .args .words .now in
-    let x = txn (start .args .x) in
-    let o : ℕ = start .args .o in
+    let x = txn (start .args .x .num) in
+    let o : ℕ = start .args .o .num in
     c .before .before .set-working-value .ensures
     ∙ ap (λ (vs : List ℕ). pack (set-working (unpack vs) x (obj o) (start .args .v))) (c .before .before .before .before .before .before .access .ensures)
     ∙ ap (λ (t : Tables). pack (set-working t x (obj o) (start .args .v))) (tables-after ws (start .pre .0) x o (start .pre .1))

@@ -10,7 +10,7 @@ use Rattle.rules.specs.Sets.{meets}
 use Rattle.rules.specs.Tables.{Live, place}
 use Rattle.rules.specs.Layout.{unpack}
 use Rattle.words_laws.specs.Unpacked.{place-read}
-use Rattle.lookups.proofs.Fitting.{fitting, depends-fits}
+use Rattle.lookups.proofs.Fitting.{fitting, sets-fit}
 use Rattle.lookups.proofs.joins.Statement.{statement}
 use Rattle.lookups.proofs.joins.Tie as tie
 
@@ -31,7 +31,7 @@ shared-slice-read-meets c =
 meets-requires : tie.Need-meets-requires
 meets-requires c κs =
     let start : tie.Start = c .before .before .before .before in
-    (depends-fits (start .args .words .now) (start .pre .0) (start .args .p) (start .pre .2), start .pre .1)
+    (omega (arith, sets-fit (start .args .words .now) (start .pre .0) (start .args .p) (start .pre .2)), start .pre .1)
 
 returns : tie.Need-returns
 returns c =

@@ -36,19 +36,19 @@ shared-slice-read-result c = omega (arith, fits (c .before .before .before))
 add-result-2 : tie.Need-add-result-2
 add-result-2 c =
     let start : tie.Start = c .before .before .before in
-    omega (arith, fits start .chain-count-fits (start .args .i) (start .pre .1))
+    omega (arith, fits start .chain-count-fits (start .args .o .num) (start .pre .1))
 
 returns : tie.Need-returns
 returns c =
     let start : tie.Start = c .before .before .before in
     let ws : List ℕ = start .args .words .now in
-    let i : ℕ = start .args .i in
+    let i : ℕ = start .args .o .num in
     ap (λ (b : Bool). word ws (saved-count-at + i) + cond b (word ws (queued-count-at + i)) 0) (sym (c .before .if1 .taken))
 
 returns-2 : tie.Need-returns-2
 returns-2 c =
     let start : tie.Start = c .before .before in
-    omega (arith, ap (λ (b : Bool). cond b (word (start .args .words .now) (queued-count-at + start .args .i)) 0) (c .if1 .left))
+    omega (arith, ap (λ (b : Bool). cond b (word (start .args .words .now) (queued-count-at + start .args .o .num)) 0) (c .if1 .left))
 
 pub counted-spec : {M : Type 1} → statement M
 counted-spec =

@@ -9,7 +9,7 @@ use borrow.Author.Count.{below-more}
 use borrow.Author.Needs.{needs}
 use lib.Dec.{T}
 use Rattle.rules.specs.Sets.{has}
-use Rattle.rules.specs.Tables.{object-count}
+use Rattle.rules.specs.Tables.{txn, object-count}
 use Rattle.rules.specs.Layout.{written-at, word}
 use Rattle.basics.specs.Logic.{and-says}
 use Rattle.refusals.specs.Lacking.{lacks-in, is-lacking}
@@ -20,7 +20,7 @@ use Rattle.refusals.proofs.first_lacking.Statement.{statement}
 use Rattle.refusals.proofs.first_lacking.Tie as tie
 
 abbrev Inv-loop : tie.InvT-loop
-Inv-loop words x p queued written i₀ i = (i ≤ object-count) × ((k : ℕ) → k < i → T (is-lacking words x p queued k) → ⊥)
+Inv-loop words x p queued written i₀ i = (i ≤ object-count) × ((k : ℕ) → k < i → T (is-lacking words (txn (x .num)) p queued k) → ⊥)
 
 abbrev μ-loop : tie.MeasureT-loop
 μ-loop words x p queued written i₀ i = object-count - i
@@ -34,10 +34,10 @@ module _ (c : tie.After-has Inv-loop μ-loop) where
   wrote = has (word (start .args .words .now) (written-at + start .args .p))
 
   abbrev lacking : ℕ → Bool
-  lacking = lacks-in (start .args .words .now) (start .args .x) (start .args .queued)
+  lacking = lacks-in (start .args .words .now) (txn (start .args .x .num)) (start .args .queued)
 
   abbrev tested : ℕ → Bool
-  tested = is-lacking (start .args .words .now) (start .args .x) (start .args .p) (start .args .queued)
+  tested = is-lacking (start .args .words .now) (txn (start .args .x .num)) (start .args .p) (start .args .queued)
 
 add-written : tie.Need-add-written Inv-loop μ-loop
 add-written c = omega arith
@@ -88,7 +88,7 @@ loop-again c =
 returns-2 : tie.Need-returns-2 Inv-loop μ-loop
 returns-2 c =
     let start : tie.Start Inv-loop μ-loop = c .before .before .before .before in
-    first-met object-count (is-lacking (start .args .words .now) (start .args .x) (start .args .p) (start .args .queued)) object-count
+    first-met object-count (is-lacking (start .args .words .now) (txn (start .args .x .num)) (start .args .p) (start .args .queued)) object-count
     (omega arith) (λ k h. c .before .loop .inv .1 k (omega arith)) (λ h. absurd (omega arith))
 
 pub first-lacking-spec : {M : Type 1} → statement M

@@ -15,18 +15,18 @@ use Rattle.refusals.proofs.lacks.Statement.{statement}
 use Rattle.refusals.proofs.lacks.Tie as tie
 
 abbrev Inv-loop : tie.InvT-loop
-Inv-loop words x i queued count j₀ j = (j ≤ count) × ((k : ℕ) → k < j → writer words i k ≡ x → ⊥)
+Inv-loop words x queued i count j₀ j = (j ≤ count) × ((k : ℕ) → k < j → writer words i k ≡ x .num → ⊥)
 
 abbrev μ-loop : tie.MeasureT-loop
-μ-loop words x i queued count j₀ j = count - j
+μ-loop words x queued i count j₀ j = count - j
 
 -- the count, and that a chain has room for so many
 count-is : (c : tie.After-counted Inv-loop μ-loop)
-    → (c .counted .result ≡ counted-in (c .before .before .args .words .now) (c .before .before .args .queued) (c .before .before .args .i))
+    → (c .counted .result ≡ counted-in (c .before .before .args .words .now) (c .before .before .args .queued) (c .before .before .args .o .num))
     × (c .counted .result ≤ chain-room)
 count-is c =
     let start : tie.Start Inv-loop μ-loop = c .before .before in
-    (c .counted .ensures, omega (arith, c .counted .ensures, counted-fits (start .args .words .now) (start .pre .0) (start .args .i) (start .args .queued) (start .pre .1)))
+    (c .counted .ensures, omega (arith, c .counted .ensures, counted-fits (start .args .words .now) (start .pre .0) (start .args .o .num) (start .args .queued) (start .pre .1)))
 
 counted-requires : tie.Need-counted-requires Inv-loop μ-loop
 counted-requires c κs = c .before .pre
@@ -34,28 +34,28 @@ counted-requires c κs = c .before .pre
 loop-holds : tie.Need-loop-holds Inv-loop μ-loop
 loop-holds c = search needs
 
-mul-if1 : tie.Need-mul-if1 Inv-loop μ-loop
-mul-if1 c = omega arith
+mul-t10 : tie.Need-mul-t10 Inv-loop μ-loop
+mul-t10 c = omega arith
 
-add-if1 : tie.Need-add-if1 Inv-loop μ-loop
-add-if1 c = omega (arith, count-is (c .before .before))
+add-t11 : tie.Need-add-t11 Inv-loop μ-loop
+add-t11 c = omega (arith, count-is (c .before .before))
 
-add-if1-2 : tie.Need-add-if1-2 Inv-loop μ-loop
-add-if1-2 c = omega (arith, count-is (c .before .before))
+add-t12 : tie.Need-add-t12 Inv-loop μ-loop
+add-t12 c = omega (arith, count-is (c .before .before))
 
-mul-if1-2 : tie.Need-mul-if1-2 Inv-loop μ-loop
-mul-if1-2 c = omega (arith, count-is (c .before .before))
+mul-t13 : tie.Need-mul-t13 Inv-loop μ-loop
+mul-t13 c = omega (arith, count-is (c .before .before))
 
-shared-slice-read-if1 : tie.Need-shared-slice-read-if1 Inv-loop μ-loop
-shared-slice-read-if1 c =
+shared-slice-read-t15 : tie.Need-shared-slice-read-t15 Inv-loop μ-loop
+shared-slice-read-t15 c =
     let start : tie.Start Inv-loop μ-loop = c .before .before .before .before .before in
     omega (arith, count-is (c .before .before .before), fitting (start .args .words .now) (start .pre .0))
 
 returns : tie.Need-returns Inv-loop μ-loop
 returns c =
-    let start : tie.Start Inv-loop μ-loop = c .before .before .before .before .before .before in
-    entry-met (start .args .words .now) (start .args .x) (start .args .queued) (start .args .i) (c .before .before .before .loop .j)
-    (omega (arith, count-is (c .before .before .before .before))) (c .if1 .taken)
+    let start : tie.Start Inv-loop μ-loop = c .before .before .before .before .before .before .before .before in
+    entry-met (start .args .words .now) (start .args .x .num) (start .args .queued) (start .args .o .num) (c .before .before .before .before .before .loop .j)
+    (omega (arith, count-is (c .before .before .before .before .before .before))) (c .if1 .taken)
 
 add-j : tie.Need-add-j Inv-loop μ-loop
 add-j c = omega arith
@@ -64,12 +64,12 @@ loop-less : tie.Need-loop-less Inv-loop μ-loop
 loop-less c = omega arith
 
 loop-again : tie.Need-loop-again Inv-loop μ-loop
-loop-again c = (omega arith, below-more _ _ (c .before .before .before .loop .inv .1) (c .if1 .left))
+loop-again c = (omega arith, below-more _ _ (c .before .before .before .before .before .loop .inv .1) (c .if1 .left))
 
 returns-2 : tie.Need-returns-2 Inv-loop μ-loop
 returns-2 c =
     let start : tie.Start Inv-loop μ-loop = c .before .before .before .before in
-    none-met (start .args .words .now) (start .args .x) (start .args .queued) (start .args .i)
+    none-met (start .args .words .now) (start .args .x .num) (start .args .queued) (start .args .o .num)
     (λ j h. c .before .loop .inv .1 j (omega (arith, count-is (c .before .before))))
 
 pub lacks-spec : {M : Type 1} → statement M
@@ -80,11 +80,11 @@ lacks-spec =
     μ-loop
     counted-requires
     loop-holds
-    mul-if1
-    add-if1
-    add-if1-2
-    mul-if1-2
-    shared-slice-read-if1
+    mul-t10
+    add-t11
+    add-t12
+    mul-t13
+    shared-slice-read-t15
     returns
     add-j
     loop-less

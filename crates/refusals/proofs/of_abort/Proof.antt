@@ -8,11 +8,11 @@ use Rattle.refusals.proofs.of_abort.Statement.{statement}
 use Rattle.refusals.proofs.of_abort.Tie as tie
 
 -- where the transaction was looked for
-asked : (c : tie.After-place-of) → Asked (c .before .before .args .words .now) (c .before .before .args .x) (c .place-of .result)
+asked : (c : tie.After-place-of) → Asked (c .before .before .args .words .now) (c .before .before .args .x .num) (c .place-of .result)
 asked c = record { sound-run = c .before .before .pre; at = c .place-of .ensures }
 
 -- the call names a live transaction
-known : (c : tie.Then2) → Alive (c .before .before .before .before .before .args .words .now) (c .before .before .before .before .before .args .x) (c .before .before .before .place-of .result)
+known : (c : tie.Then2) → Alive (c .before .before .before .before .before .args .words .now) (c .before .before .before .before .before .args .x .num) (c .before .before .before .place-of .result)
 known c =
     alive (asked (c .before .before .before)) (c .before .before .given-out .result) (c .before .before .given-out .ensures)
     (c .before .if1 .left) (c .if2 .taken)

@@ -15,7 +15,7 @@ use Rattle.refusals.proofs.of_access.Statement.{statement}
 use Rattle.refusals.proofs.of_access.Tie as tie
 
 -- where the transaction was looked for
-asked : (c : tie.After-place-of) → Asked (c .before .before .args .words .now) (c .before .before .args .x) (c .place-of .result)
+asked : (c : tie.After-place-of) → Asked (c .before .before .args .words .now) (c .before .before .args .x .num) (c .place-of .result)
 asked c = record { sound-run = c .before .before .pre; at = c .place-of .ensures }
 
 -- the call names an object and a live transaction
@@ -30,10 +30,10 @@ module _ (c : tie.Else3) where
   ws = start .args .words .now
 
   abbrev x : ℕ
-  x = start .args .x
+  x = start .args .x .num
 
   abbrev o : ℕ
-  o = start .args .o
+  o = start .args .o .num
 
   known : Alive ws x (placed .place-of .result)
   known = alive (asked placed) (c .before .before .given-out .result) (c .before .before .given-out .ensures) (c .before .if2 .left) (c .if3 .left)
@@ -88,17 +88,6 @@ returns-4 c =
     let at : tie.Else3 = c .before .before in
     both _ _ _ _ (λ k a v. after-prepare (known at) (o at) (below at) k a v (c .if4 .taken))
 
-add-holder : tie.Need-add-holder
-add-holder c = search needs
-
-mul-holder : tie.Need-mul-holder
-mul-holder c = search needs
-
-shared-slice-read-holder : tie.Need-shared-slice-read-holder
-shared-slice-read-holder c =
-    let at : tie.Else3 = c .before .before .before in
-    omega (arith, fits at, below at)
-
 add-has : tie.Need-add-has
 add-has c = search needs
 
@@ -106,30 +95,41 @@ mul-has : tie.Need-mul-has
 mul-has c = search needs
 
 shared-slice-read-has : tie.Need-shared-slice-read-has
-shared-slice-read-has c = omega (arith, fits (c .before .before .before .before))
+shared-slice-read-has c =
+    let at : tie.Else3 = c .before .before .before in
+    omega (arith, fits at, below at)
+
+add-has-2 : tie.Need-add-has-2
+add-has-2 c = search needs
+
+mul-has-2 : tie.Need-mul-has-2
+mul-has-2 c = search needs
+
+shared-slice-read-has-2 : tie.Need-shared-slice-read-has-2
+shared-slice-read-has-2 c = omega (arith, fits (c .before .before .before .before))
 
 has-requires : tie.Need-has-requires
 has-requires c κs = search needs
 
 returns-5 : tie.Need-returns-5
 returns-5 c =
-    both _ _ _ _ (λ k a v. held (unprepared (c .before .before)) k a v (c .before .if5 .taken) (c .if6 .taken))
+    both _ _ _ _ (λ k a v. held (unprepared (c .before .before .before .before)) k a v (c .before .before .before .if5 .taken) (c .if6 .taken))
 
 returns-6 : tie.Need-returns-6
 returns-6 c =
-    both _ _ _ _ (λ k a v. lost-lock (unprepared (c .before .before)) k a v (c .before .if5 .taken) (c .if6 .left))
+    both _ _ _ _ (λ k a v. lost-lock (unprepared (c .before .before .before .before)) k a v (c .before .before .before .if5 .taken) (c .if6 .left))
 
 returns-7 : tie.Need-returns-7
 returns-7 c =
-    both _ _ _ _ (λ k a v. free (unprepared (c .before .before)) k a v (c .before .if5 .left) (c .if7 .taken))
+    both _ _ _ _ (λ k a v. free (unprepared (c .before .before .before)) k a v (c .before .before .if5 .left) (c .if7 .taken))
 
 returns-8 : tie.Need-returns-8
 returns-8 c =
-    both _ _ _ _ (λ k a v. waits (unprepared (c .before .before .before)) k a v (c .before .before .if5 .left) (c .before .if7 .left) (c .if8 .taken))
+    both _ _ _ _ (λ k a v. waits (unprepared (c .before .before .before .before .before .before)) k a v (c .before .before .before .before .before .if5 .left) (c .before .before .before .if7 .left) (c .if8 .taken))
 
 returns-9 : tie.Need-returns-9
 returns-9 c =
-    both _ _ _ _ (λ k a v. dies (unprepared (c .before .before .before)) k a v (c .before .before .if5 .left) (c .before .if7 .left) (c .if8 .left))
+    both _ _ _ _ (λ k a v. dies (unprepared (c .before .before .before .before .before .before)) k a v (c .before .before .before .before .before .if5 .left) (c .before .before .before .if7 .left) (c .if8 .left))
 
 pub of-access-spec : {M : Type 1} → statement M
 of-access-spec =
@@ -144,12 +144,12 @@ of-access-spec =
     mul-if4
     shared-slice-read-if4
     returns-4
-    add-holder
-    mul-holder
-    shared-slice-read-holder
     add-has
     mul-has
     shared-slice-read-has
+    add-has-2
+    mul-has-2
+    shared-slice-read-has-2
     has-requires
     returns-5
     returns-6

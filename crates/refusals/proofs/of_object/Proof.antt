@@ -36,14 +36,14 @@ returns : tie.Need-returns
 unfolding order kind-number
 returns c =
     λ ws s.
-    let o : ℕ = c .before .args .o in
+    let o : ℕ = c .before .before .args .o .num in
     (past-objects ws s o is-save refl refl (c .if1 .taken), past-objects ws s o is-settle refl refl (c .if1 .taken), past-objects ws s o is-look refl refl (c .if1 .taken))
 
 returns-2 : tie.Need-returns-2
 unfolding order kind-number
 returns-2 c =
     λ ws s.
-    let o : ℕ = c .before .args .o in
+    let o : ℕ = c .before .before .args .o .num in
     (an-object ws s o is-save refl refl (c .if1 .left), an-object ws s o is-settle refl refl (c .if1 .left), an-object ws s o is-look refl refl (c .if1 .left))
 
 pub of-object-spec : {M : Type 1} → statement M

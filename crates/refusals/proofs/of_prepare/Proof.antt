@@ -17,7 +17,7 @@ use Rattle.refusals.proofs.of_prepare.Statement.{statement}
 use Rattle.refusals.proofs.of_prepare.Tie as tie
 
 -- where the transaction was looked for
-asked : (c : tie.After-place-of) → Asked (c .before .before .args .words .now) (c .before .before .args .x) (c .place-of .result)
+asked : (c : tie.After-place-of) → Asked (c .before .before .args .words .now) (c .before .before .args .x .num) (c .place-of .result)
 asked c = record { sound-run = c .before .before .pre; at = c .place-of .ensures }
 
 -- the call names an object and a live transaction
@@ -32,10 +32,10 @@ module _ (c : tie.Else3) where
   ws = start .args .words .now
 
   abbrev x : ℕ
-  x = start .args .x
+  x = start .args .x .num
 
   abbrev o : ℕ
-  o = start .args .o
+  o = start .args .o .num
 
   known : Alive ws x (placed .place-of .result)
   known = alive (asked placed) (c .before .before .given-out .result) (c .before .before .given-out .ensures) (c .before .if2 .left) (c .if3 .left)
@@ -54,16 +54,16 @@ accessed c =
 
 -- and it holds it and has not prepared it
 held : (c : tie.After-has3)
-    → let at : tie.Else3 = c .before .before .before .before .before .before .before .before .before .before in
+    → let at : tie.Else3 = c .before .before .before .before .before .before .before .before .before .before .before .before in
     Held (ws at) (x at) (o at) (placed at .place-of .result) (c .has3 .result)
 held c =
-    let again : tie.After-has2 = c .before .before .before .before .before in
+    let again : tie.After-has2 = c .before .before .before .before .before .before .before in
     let at : tie.Else3 = again .before .before .before .before .before in
     record {
       alive = known at;
       object-below = below at;
       accessed = accessed (again .before .before);
-      open-still = not-yet (known at) (o at) (below at) (accessed (again .before .before)) (again .has2 .result) (again .has2 .ensures) (c .before .before .before .before .if5 .left);
+      open-still = not-yet (known at) (o at) (below at) (accessed (again .before .before)) (again .has2 .result) (again .has2 .ensures) (c .before .before .before .before .before .before .if5 .left);
       holds = c .before .before .if6 .left;
       tested = c .has3 .ensures;
     }
@@ -121,24 +121,6 @@ returns-5 c =
     let at : tie.Else3 = c .before .before .before .before .before .before in
     twice (known at) (o at) (below at) (accessed (c .before .before .before)) (c .before .has2 .result) (c .before .has2 .ensures) (c .if5 .taken)
 
-add-if6 : tie.Need-add-if6
-add-if6 c = search needs
-
-mul-if6 : tie.Need-mul-if6
-mul-if6 c = search needs
-
-shared-slice-read-if6 : tie.Need-shared-slice-read-if6
-shared-slice-read-if6 c =
-    let at : tie.Else3 = c .before .before .before .before .before .before .before in
-    omega (arith, fits at, below at)
-
-returns-6 : tie.Need-returns-6
-returns-6 c =
-    let again : tie.After-has2 = c .before .before .before in
-    let at : tie.Else3 = again .before .before .before .before .before in
-    lost-before (known at) (o at) (below at) (accessed (again .before .before)) (again .has2 .result) (again .has2 .ensures) (c .before .before .if5 .left)
-    (c .if6 .taken)
-
 add-has-3 : tie.Need-add-has-3
 add-has-3 c = search needs
 
@@ -146,7 +128,25 @@ mul-has-3 : tie.Need-mul-has-3
 mul-has-3 c = search needs
 
 shared-slice-read-has-3 : tie.Need-shared-slice-read-has-3
-shared-slice-read-has-3 c = omega (arith, fits (c .before .before .before .before .before .before .before .before .before))
+shared-slice-read-has-3 c =
+    let at : tie.Else3 = c .before .before .before .before .before .before .before in
+    omega (arith, fits at, below at)
+
+returns-6 : tie.Need-returns-6
+returns-6 c =
+    let again : tie.After-has2 = c .before .before .before .before .before in
+    let at : tie.Else3 = again .before .before .before .before .before in
+    lost-before (known at) (o at) (below at) (accessed (again .before .before)) (again .has2 .result) (again .has2 .ensures) (c .before .before .before .before .if5 .left)
+    (c .if6 .taken)
+
+add-has-4 : tie.Need-add-has-4
+add-has-4 c = search needs
+
+mul-has-4 : tie.Need-mul-has-4
+mul-has-4 c = search needs
+
+shared-slice-read-has-4 : tie.Need-shared-slice-read-has-4
+shared-slice-read-has-4 c = omega (arith, fits (c .before .before .before .before .before .before .before .before .before .before .before))
 
 has-requires-3 : tie.Need-has-requires-3
 has-requires-3 c κs = search needs
@@ -159,7 +159,7 @@ mul-if8 c = search needs
 
 shared-slice-read-if8 : tie.Need-shared-slice-read-if8
 shared-slice-read-if8 c =
-    let at : tie.Else3 = c .before .before .before .before .before .before .before .before .before .before .before .before in
+    let at : tie.Else3 = c .before .before .before .before .before .before .before .before .before .before .before .before .before .before in
     omega (arith, fits at, below at)
 
 add-if8-2 : tie.Need-add-if8-2
@@ -170,12 +170,12 @@ mul-if8-2 c = search needs
 
 shared-slice-read-if8-2 : tie.Need-shared-slice-read-if8-2
 shared-slice-read-if8-2 c =
-    let at : tie.Else3 = c .before .before .before .before .before .before .before .before .before .before .before .before .before in
+    let at : tie.Else3 = c .before .before .before .before .before .before .before .before .before .before .before .before .before .before .before in
     omega (arith, fits at, below at)
 
 add-if8-3 : tie.Need-add-if8-3
 add-if8-3 c =
-    let at : tie.Else3 = c .before .before .before .before .before .before .before .before .before .before .before .before .before in
+    let at : tie.Else3 = c .before .before .before .before .before .before .before .before .before .before .before .before .before .before .before in
     omega (arith, fits at .chain-count-fits (o at) (below at))
 
 returns-7 : tie.Need-returns-7
@@ -207,13 +207,13 @@ of-prepare-spec =
     shared-slice-read-has-2
     has-requires-2
     returns-5
-    add-if6
-    mul-if6
-    shared-slice-read-if6
-    returns-6
     add-has-3
     mul-has-3
     shared-slice-read-has-3
+    returns-6
+    add-has-4
+    mul-has-4
+    shared-slice-read-has-4
     has-requires-3
     add-if8
     mul-if8

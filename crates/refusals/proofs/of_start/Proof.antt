@@ -27,16 +27,16 @@ unnamed ls t = absurd t
 abbrev call : Call
 call = asking is-start 0 0 0
 
-numbers-left : (c : tie.Else1) → unpack (c .before .before .before .args .words .now) .next .num ≤ last-number
-numbers-left c = omega (arith, saying (c .before .before .before .args .words .now) (c .before .before .before .pre) .next, c .if1 .left)
+numbers-left : (c : tie.Else1) → unpack (c .before .before .before .before .args .words .now) .next .num ≤ last-number
+numbers-left c = omega (arith, saying (c .before .before .before .before .args .words .now) (c .before .before .before .before .pre) .next, c .if1 .left)
 
-shared-slice-read-if1 : tie.Need-shared-slice-read-if1
-shared-slice-read-if1 c = omega (arith, fitting (c .before .before .args .words .now) (c .before .before .pre))
+shared-slice-read-t4 : tie.Need-shared-slice-read-t4
+shared-slice-read-t4 c = omega (arith, fitting (c .before .before .args .words .now) (c .before .before .pre))
 
 returns : tie.Need-returns
 unfolding order
 returns c =
-    let start : tie.Start = c .before .before .before in
+    let start : tie.Start = c .before .before .before .before in
     let ws : List ℕ = start .args .words .now in
     refused ws call place-count (unnamed (unpack ws .live)) NumbersSpent numbers-spent refl
     (spent-first (unpack ws) (unpacked-sound ws (start .pre)) call (omega (arith, saying ws (start .pre) .next, c .if1 .taken)))
@@ -47,7 +47,7 @@ free-places-requires c κs = search needs
 returns-2 : tie.Need-returns-2
 unfolding order
 returns-2 c =
-    let start : tie.Start = c .before .before .before .before .before in
+    let start : tie.Start = c .before .before .before .before .before .before in
     let ws : List ℕ = start .args .words .now in
     refused ws call place-count (unnamed (unpack ws .live)) PlacesFull places-full refl
     (full-first (unpack ws) (unpacked-sound ws (start .pre)) call (numbers-left (c .before .before)) (sym (c .before .free-places .ensures) ∙ c .if2 .taken))
@@ -55,11 +55,11 @@ returns-2 c =
 returns-3 : tie.Need-returns-3
 unfolding order
 returns-3 c =
-    let start : tie.Start = c .before .before .before .before .before in
+    let start : tie.Start = c .before .before .before .before .before .before in
     let ws : List ℕ = start .args .words .now in
     allowed ws call place-count (unnamed (unpack ws .live))
     (start-none (unpack ws) (unpacked-sound ws (start .pre)) call (numbers-left (c .before .before)) (λ z. c .if2 .left (c .before .free-places .ensures ∙ z)))
 
 pub of-start-spec : {M : Type 1} → statement M
 of-start-spec =
-    tie.close (tie.spec shared-slice-read-if1 returns free-places-requires returns-2 returns-3)
+    tie.close (tie.spec shared-slice-read-t4 returns free-places-requires returns-2 returns-3)

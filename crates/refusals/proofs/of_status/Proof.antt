@@ -22,7 +22,7 @@ unfolding order
 returns c =
     let start : tie.Start = c .before .before .before in
     let ws : List ℕ = start .args .words .now in
-    let x : ℕ = start .args .x in
+    let x : ℕ = start .args .x .num in
     let call : Call = asking is-status x 0 0 in
     let given = was-given x (unpack ws .next .num) (c .before .given-out .result) (c .before .given-out .ensures) (c .if1 .taken) in
     sym (done-why (unpack ws) call (status-none (unpack ws) (unpacked-sound ws (start .pre)) call (given .0) (given .1)))
@@ -32,7 +32,7 @@ unfolding order
 returns-2 c =
     let start : tie.Start = c .before .before .before in
     let ws : List ℕ = start .args .words .now in
-    let x : ℕ = start .args .x in
+    let x : ℕ = start .args .x .num in
     let call : Call = asking is-status x 0 0 in
     let not-given = never-given x (unpack ws .next .num) (c .before .given-out .result) (c .before .given-out .ensures) (c .if1 .left) in
     sym (refused-why (unpack ws) call never-given-out (never-first (unpack ws) (unpacked-sound ws (start .pre)) call [] not-given))
