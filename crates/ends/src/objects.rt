@@ -7,8 +7,8 @@ ghost use Rattle.rules.specs.Layout.{holder-at, saved-count-at, word-count, wor
 ghost use Rattle.ends_laws.specs.Objects.{unlock as unlocked-words};
 ghost use Rattle.ends_laws.specs.Entries.{writer-place, put-entry, clear as cleared, slide as slid, trim as trimmed};
 ghost use Rattle.ends_laws.specs.Scans.{falls-in, first-fall as first-fall-in};
-ghost use Rattle.ends_laws.specs.Cuts.{keep-saved as saved-kept};
-ghost use Rattle.ends_laws.specs.Undo.{unlock-fallen as fallen-unlocked, undo-object as undone-object};
+ghost use Rattle.ends_laws.specs.Cuts.{keep-saved as saved-kept, cut-chain as chain-cut};
+ghost use Rattle.ends_laws.specs.Undo.{unlock-fallen as fallen-unlocked, no-entries as no-entries-in, undo-chain as undone-chain, undo-object as undone-object};
 ghost use Rattle.ends_laws.specs.Settle.{settle-number as settle-number-in, put-stable as stable-put, settle-object as settled-object};
 use calls::Lsn;
 use calls::Obj;
@@ -132,17 +132,48 @@ fn unlock_fallen(words: &mut [u64], f: u64, o: Obj)
     }
 }
 
-// Those at the places f lose object o's lock and the chain from the first of them on.
+// Leaves object o the first n entries of its chain.
+fn cut_chain(words: &mut [u64], o: Obj, n: u64)
+    requires { ⌜ (length (now words) ≡ word-count) × (o .num < object-count) ⌝ }
+    ensures { λ r. ⌜ now (words .exit) ≡ chain-cut (o .num) n (now (words .entry)) ⌝ }
+{
+    let i = o.num;
+    let saved = lower(words[834 + i], n);
+    let queued = lower(words[866 + i], n - saved);
+    trim(words, o, saved, queued);
+}
+
+// Whether object o's chain is empty.
+fn no_entries(words: &[u64], o: Obj) -> bool
+    requires { ⌜ (length (now words) ≡ word-count) × (o .num < object-count) ⌝ }
+    ensures { λ r. ⌜ r ≡ no-entries-in (now (words .entry)) (o .num) ⌝ }
+{
+    let i = o.num;
+    words[834 + i] == 0 && words[866 + i] == 0
+}
+
+// Those at the places f lose object o's chain from the first of them on.
+fn undo_chain(words: &mut [u64], f: u64, o: Obj)
+    requires { ⌜ (length (now words) ≡ word-count) × (o .num < object-count) ⌝ }
+    ensures { λ r. ⌜ now (words .exit) ≡ undone-chain f (o .num) (now (words .entry)) ⌝ }
+{
+    // Nearly every chain is empty or loses nothing: of an empty one no entry is looked at, and neither is written.
+    if no_entries(words, o) {
+        return;
+    }
+    let kept = first_fall(words, f, o);
+    if kept < 8 {
+        cut_chain(words, o, kept as u64);
+    }
+}
+
+// Those at the places f lose object o's lock and its chain from the first of them on.
 pub fn undo_object(words: &mut [u64], f: u64, o: Obj)
     requires { ⌜ (length (now words) ≡ word-count) × (o .num < object-count) ⌝ }
     ensures { λ r. ⌜ now (words .exit) ≡ undone-object f (o .num) (now (words .entry)) ⌝ }
 {
-    let i = o.num;
-    let kept = first_fall(words, f, o) as u64;
-    let saved = lower(words[834 + i], kept);
-    let queued = lower(words[866 + i], kept - saved);
+    undo_chain(words, f, o);
     unlock_fallen(words, f, o);
-    trim(words, o, saved, queued);
 }
 
 // How many entries of object o leave: the saved ones before the first whose writer is live. In sound tables those are

@@ -1,23 +1,21 @@
 -- The words that crash writes are what the rules' crash packs to.
 -- Rests on the rules' Layout and Steps, on words_laws, sound_laws, and on Loops to Cuts. Assumes nothing.
-use mathlib.Core.Path.{_≡_, ap, sym, _∙_}
+use mathlib.Core.Path.{_≡_, refl, ap, sym, _∙_}
 use mathlib.Core.Bool.{Bool, true, false, cond}
-use mathlib.Core.List.{List, [], _++_, append-nil}
+use mathlib.Core.List.{List}
 use Prim.Native.Nat.{ℕ, _+_, _<_, _≤_}
 use native.Mathlib.Nat.{le-refl}
 use native.Mathlib.Omega.{arith}
 use lib.ListN.{length, getD, set, length-append}
 use lib.Seq.{set-getD}
 use Rattle.rules.specs.Sets.{has}
-use Rattle.rules.specs.Tables.{Entry, Object, Tables, obj, object-count, chain-room, fresh-object, object}
+use Rattle.rules.specs.Tables.{Object, Tables, obj, object-count, chain-room, fresh-object, object}
 use Rattle.rules.specs.Steps.{crashed, crash}
 use Rattle.rules.specs.Layout.{saved-count-at, queued-count-at, pack, word}
 use Rattle.words_laws.specs.Says.{saved-count, queued-count, pack-says}
 use Rattle.sound_laws.specs.Means.{Sound}
 use Rattle.ends_laws.specs.Loops.{loop, loop-row, loop-turns, turns, turns-after}
-use Rattle.ends_laws.specs.Objects.{unlock}
-use Rattle.ends_laws.specs.Entries.{trim}
-use Rattle.ends_laws.specs.Cuts.{keep-saved, with-objects, cut-packs}
+use Rattle.ends_laws.specs.Cuts.{keep-saved, with-objects, keep-saved-packs}
 
 -- object i with its lock free and its saved entries alone, if it is one of the set
 unfoldable pub crash-object : ℕ → ℕ → List ℕ → List ℕ
@@ -33,7 +31,7 @@ module _ (t : Tables) (s : Sound t) (c : ℕ) where
   object-crashed : (i : ℕ) (bs : List Object) → i < length (t .objects) → length bs ≡ length (t .objects)
       → getD bs i fresh-object ≡ object t (obj i)
       → crash-object c i (pack (with-objects t bs)) ≡ pack (with-objects t (set bs i (now i (object t (obj i)))))
-  unfolding crash-object keep-saved
+  unfolding crash-object
   object-crashed i bs m n e = go (has c i)
     where
       u : Tables
@@ -45,13 +43,12 @@ module _ (t : Tables) (s : Sound t) (c : ℕ) where
       h : i < object-count
       h = omega (arith, s .objects-count)
 
-      go : (z : Bool) → cond z (trim i (word (pack u) (saved-count-at + i)) 0 (unlock i (pack u))) (pack u)
+      go : (z : Bool) → cond z (keep-saved i (word (pack u) (saved-count-at + i)) (pack u)) (pack u)
           ≡ pack (with-objects t (set bs i (cond z (crashed b) b)))
       go true =
-          ap (λ (k : ℕ). trim i k 0 (unlock i (pack u)))
+          ap (λ (k : ℕ). keep-saved i k (pack u))
           (pack-says u .column saved-count i h ∙ ap (λ (o : Object). length (o .saved)) e)
-          ∙ cut-packs u (n ∙ s .objects-count) i h b e (b .saved) [] (b .queued)
-          (ap (λ (l : List Entry). l ++ b .queued) (sym (append-nil (b .saved)))) true
+          ∙ keep-saved-packs u (n ∙ s .objects-count) i h b e (b .saved) (b .queued) refl
       go false =
           ap (λ (l : List Object). pack (with-objects t l)) (sym (set-getD bs i fresh-object))
           ∙ ap (λ (o : Object). pack (with-objects t (set bs i o))) e

@@ -1,7 +1,7 @@
 -- Lists in which those that pass come first: where a test fails for the first time, and how many it keeps.
 -- Rests on the rules' Tests and on basics. Assumes nothing.
-use mathlib.Core.Path.{_≡_, ap, ap₂, sym, _∙_, subst}
-use mathlib.Core.Bool.{Bool}
+use mathlib.Core.Path.{_≡_, refl, ap, ap₂, sym, _∙_, subst}
+use mathlib.Core.Bool.{Bool, true, false, cond}
 use mathlib.Core.Logic.{_⊎_, inl, inr}
 use mathlib.Core.List.{List, [], _∷_, _++_, append-nil}
 use Prim.Native.Nat.{ℕ, zero, suc, _+_, _-_, _≤_, _<_, min}
@@ -28,6 +28,28 @@ module _ {A : Type 0} (p : A → Bool) where
       (keep-none p (after-leading p xs) (after-leading-fail p xs r))
       ∙ append-nil (leading p xs)
 
+  keep-length : (xs : List A) → length (keep p xs) ≤ length xs
+  unfolding keep
+  keep-length [] = omega arith
+  keep-length (x ∷ xs) = go (p x) (keep-length xs)
+    where
+      go : (b : Bool) → length (keep p xs) ≤ length xs
+          → length (cond b (x ∷ keep p xs) (keep p xs)) ≤ length (x ∷ xs)
+      go true h = omega arith
+      go false h = omega arith
+
+  -- where as many are kept, all are
+  pub keep-same : (xs : List A) → length xs ≤ length (keep p xs) → keep p xs ≡ xs
+  unfolding keep
+  keep-same [] h = refl
+  keep-same (x ∷ xs) h = go (keep-same xs) (p x) h
+    where
+      go : (length xs ≤ length (keep p xs) → keep p xs ≡ xs) → (b : Bool)
+          → length (x ∷ xs) ≤ length (cond b (x ∷ keep p xs) (keep p xs))
+          → cond b (x ∷ keep p xs) (keep p xs) ≡ x ∷ xs
+      go rest true h = ap (λ (l : List A). x ∷ l) (rest (omega arith))
+      go rest false h = absurd (omega (arith, keep-length xs))
+
   -- the kept ones stand first and pass, the others do not
   module _ (d : A) where
     kept-at : (xs : List A) → PassFirst xs → (j : ℕ) → j < length (keep p xs) → T (p (getD xs j d))
@@ -48,11 +70,6 @@ module _ {A : Type 0} (p : A → Bool) where
         go rest (inl u) (suc j) h k t = rest j (omega arith) (omega (arith, ap length (keep-true p x xs u))) t
         go rest (inr f) j h k t = All-at (λ e. T (p e) → ⊥) (x ∷ xs) j d (fail-on p x xs r f) h t
 
-    keep-length : (xs : List A) → PassFirst xs → length (keep p xs) ≤ length xs
-    keep-length xs r =
-        let w = keep-front p xs r in
-        omega (arith, ap length (w .1), length-append (keep p xs) (w .0))
-
     -- where the test fails first in two lists, one after the other, says how many of each are kept
     module _
         (xs ys : List A)
@@ -70,8 +87,8 @@ module _ {A : Type 0} (p : A → Bool) where
           ap length (keep-append p xs ys) ∙ length-append (keep p xs) (keep p ys) in
           let len : length (xs ++ ys) ≡ length xs + length ys = length-append xs ys in
           let rx : PassFirst xs = Neighbours-front (λ e f. T (p f) → T (p e)) xs ys r in
-          let ax : a ≤ length xs = keep-length xs rx in
-          let all : a + c ≤ length xs + length ys = omega (arith, keep-length (xs ++ ys) r) in
+          let ax : a ≤ length xs = keep-length xs in
+          let all : a + c ≤ length xs + length ys = omega (arith, keep-length (xs ++ ys)) in
           let low : a + c ≤ k = at-least (λ g. here (omega arith) (kept-at (xs ++ ys) r k (omega arith))) in
           let stop : a + c < length xs + length ys → k ≤ a + c =
           λ g. at-least

@@ -23,7 +23,7 @@ use Rattle.sound_laws.specs.Storage.{settle-sound}
 use Rattle.ends_laws.specs.Loops.{loop, loop-row, turns, turns-after, turns-row}
 use Rattle.ends_laws.specs.Fronts.{keep-leading}
 use Rattle.ends_laws.specs.Places.{with-places, free-words, free-packs}
-use Rattle.ends_laws.specs.Cuts.{keep-saved, with-objects, cut-packs}
+use Rattle.ends_laws.specs.Cuts.{keep-saved, with-objects, keep-saved-packs}
 
 -- the tables after the first n objects were settled
 unfoldable pub settle-first : ℕ → Tables → Tables
@@ -94,11 +94,10 @@ module _ (t : Tables) (s : Sound t) where
   object-wiped : (i : ℕ) (bs : List Object) → i < length all-settled → length bs ≡ length all-settled
       → getD bs i fresh-object ≡ getD all-settled i fresh-object
       → wipe i (pack (with-objects t bs)) ≡ pack (with-objects t (set bs i (bare (getD all-settled i fresh-object))))
-  unfolding keep-saved
   object-wiped i bs m n e =
       let size = length-row object-count (λ i. settled (t .log) (object t (obj i))) in
       let b = getD all-settled i fresh-object in
-      cut-packs (with-objects t bs) (n ∙ size) i (omega arith) b e [] [] (chain b) refl true
+      keep-saved-packs (with-objects t bs) (n ∙ size) i (omega arith) b e [] (chain b) refl
 
   -- settled and bare, an object is what storage has of it, settled
   bare-durable : (i : ℕ) → i < object-count
