@@ -1,5 +1,5 @@
 -- What the fields of a line say of the whole line.
--- Rests on the rules' Frames, on frames_laws' Stretches, and on Parts. Assumes nothing.
+-- Rests on the rules' Frames, on frames_laws' Stretches, and on Parts and Shape. Assumes nothing.
 use mathlib.Core.Path.{_≡_, sym}
 use mathlib.Core.Bool.{Bool, true, false, cond}
 use mathlib.Core.List.{List}
@@ -13,9 +13,10 @@ use lib.Seq.{take-add}
 use Rattle.rules.specs.Tests.{all}
 use Rattle.rules.specs.Frames.{line-feed, frame-length, is-digit, number-in, call-in, is-frame, read-frame}
 use Rattle.basics.specs.Logic.{is-true, cond-false}
-use Rattle.frames_laws.specs.Stretches.{passed, all-append, all-stretch}
+use Rattle.frames_laws.specs.Stretches.{all-append, all-stretch}
 use Rattle.frames.specs.declared.Digits.the-variants.{Number, Mixed}
 use Rattle.frames.specs.Parts.{field, digits-after, digits-in, asked}
+use Rattle.frames.specs.Shape.{frame-shape}
 
 -- ---- what the digits of a field say
 
@@ -46,20 +47,15 @@ refused : (l : List ℕ) → (T (is-frame l) → ⊥) → none ≡ read-frame l
 unfolding read-frame
 refused l f = sym (cond-false (is-frame l) (some (call-in l)) none f)
 
--- the length, the digits and the line feed of a frame
-shape : (l : List ℕ) → T (is-frame l) → (length l ≡ frame-length) × T (all is-digit (take 28 l)) × (getD l 28 0 ≡ line-feed)
-unfolding is-frame
-shape l t = let (((((long, hex), ended), low), high), unused) = simp passed at t in (long, hex, ended)
-
 pub wrong-length : (l : List ℕ) → (length l ≡ frame-length → ⊥) → none ≡ read-frame l
-wrong-length l f = refused l (λ t. f (shape l t .0))
+wrong-length l f = refused l (λ t. f (frame-shape l t .long))
 
 pub wrong-end : (l : List ℕ) → (getD l 28 0 ≡ line-feed → ⊥) → none ≡ read-frame l
-wrong-end l f = refused l (λ t. f (shape l t .2))
+wrong-end l f = refused l (λ t. f (frame-shape l t .ended))
 
 pub wrong-field : (from end : ℕ) (l : List ℕ) → from ≤ end → end ≤ 28 → Mixed ≡ digits-in (field from end l) → none ≡ read-frame l
 wrong-field from end l h k e =
-    refused l (λ t. not-all-digits (field from end l) e (all-stretch is-digit from (end - from) 28 l (omega arith) (shape l t .1)))
+    refused l (λ t. not-all-digits (field from end l) e (all-stretch is-digit from (end - from) 28 l (omega arith) (frame-shape l t .hex)))
 
 -- ---- lines whose fields are digits
 

@@ -41,6 +41,9 @@ const LINE_FEED: u8 = 10;
 // What the table of digits has for every other character.
 const NO_DIGIT: u8 = 255;
 
+// The number that each character stands for as a digit.
+pub type DigitValues = [u8; 256];
+
 // The fields of a call, each a part of a sum.
 const TRANSACTION: u8 = 1;
 
@@ -76,9 +79,8 @@ fn digit(number: u8) -> u8
     }
 }
 
-// The number that each character stands for as a digit. A line is read with one table, made before its first digit: a
-// constant table would be made anew at each.
-fn digit_values() -> [u8; 256]
+// The digit values. Whoever reads many lines makes them once: a constant table would be made anew at each digit.
+pub fn digit_values() -> DigitValues
     ensures { λ r. ⌜ r ≡ digit-values ⌝ }
 {
     let mut values = [NO_DIGIT; 256];
@@ -89,7 +91,7 @@ fn digit_values() -> [u8; 256]
 }
 
 // The number of the field from a place of the line up to another.
-fn number(values: &[u8; 256], line: &[u8], from: usize, end: usize) -> Digits
+fn number(values: &DigitValues, line: &[u8], from: usize, end: usize) -> Digits
     requires { ⌜ now values ≡ digit-values ⌝ }
     requires { ⌜ (from ≤ end) × (end ≤ length (now line)) × (end ≤ from + 16) ⌝ }
     ensures { λ r. ⌜ r ≡ digits-in (field from end (now (line .entry))) ⌝ }
@@ -174,7 +176,8 @@ fn ask(number: u64, who: Txn, what: Obj, value: u64) -> Parsed
 }
 
 // A line, its line feed included, as the rules read it.
-pub fn read(line: &[u8]) -> Parsed
+pub fn read(values: &DigitValues, line: &[u8]) -> Parsed
+    requires { ⌜ now values ≡ digit-values ⌝ }
     ensures { λ r. ⌜ parsed-as r ≡ read-frame (now (line .entry)) ⌝ }
 {
     if line.len() != 29 {
@@ -183,17 +186,16 @@ pub fn read(line: &[u8]) -> Parsed
     if line[28] != LINE_FEED {
         return Parsed::Bad;
     }
-    let values = digit_values();
-    let Digits::Number(kind) = number(&values, line, 0, 2) else {
+    let Digits::Number(kind) = number(values, line, 0, 2) else {
         return Parsed::Bad;
     };
-    let Digits::Number(who) = number(&values, line, 2, 10) else {
+    let Digits::Number(who) = number(values, line, 2, 10) else {
         return Parsed::Bad;
     };
-    let Digits::Number(what) = number(&values, line, 10, 12) else {
+    let Digits::Number(what) = number(values, line, 10, 12) else {
         return Parsed::Bad;
     };
-    let Digits::Number(value) = number(&values, line, 12, 28) else {
+    let Digits::Number(value) = number(values, line, 12, 28) else {
         return Parsed::Bad;
     };
     ask(kind, Txn { num: who }, Obj { num: what as usize }, value)

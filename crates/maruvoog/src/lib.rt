@@ -181,7 +181,8 @@ pub extern "C" fn mv_look(words: &mut [u64], object: u8) -> Answer
 pub extern "C" fn mv_line(words: &mut [u64], line: &[u8]) -> Answer
     ensures { λ r. ⌜ Leaves (line-words (now (words .entry)) (now (line .entry))) r (now (words .exit)) ⌝ }
 {
-    let parsed = frames::read(line);
+    let values = frames::digit_values();
+    let parsed = frames::read(&values, line);
     match parsed {
         Parsed::Asks(c) => one(words, c),
         Parsed::Bad => Answer {

@@ -1,4 +1,5 @@
 pub mod Cut
+pub mod First
 pub mod Kept
 pub mod Ran
 pub mod Stepped

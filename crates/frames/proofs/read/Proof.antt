@@ -17,16 +17,16 @@ abbrev line : tie.Else2 → List ℕ
 line c = c .before .before .before .before .args .line .now
 
 abbrev past-kind : tie.After-known-told → tie.Else2
-past-kind c = c .before .before .before .before .before .before
+past-kind c = c .before .before .before .before
 
 abbrev past-who : tie.After-known-told2 → tie.After-known-told
-past-who c = c .before .before .before .before .before
+past-who c = c .before .before .before .before
 
 abbrev past-what : tie.After-known-told3 → tie.After-known-told2
-past-what c = c .before .before .before .before .before
+past-what c = c .before .before .before .before
 
 abbrev past-value : tie.After-known-told4 → tie.After-known-told3
-past-value c = c .before .before .before .before .before
+past-value c = c .before .before .before .before
 
 -- ---- the answers
 
@@ -39,9 +39,6 @@ shared-slice-read-if2 c = search needs
 returns-2 : tie.Need-returns-2
 returns-2 c = wrong-end (c .before .before .before .before .args .line .now) (c .if2 .taken)
 
-digit-values-requires : tie.Need-digit-values-requires
-digit-values-requires c κs = search needs
-
 number-requires : tie.Need-number-requires
 number-requires c κs = search needs
 
@@ -53,7 +50,7 @@ enum-told c = search needs
 
 returns-3 : tie.Need-returns-3
 returns-3 c =
-    wrong-field 0 2 (line (c .before .before .before .before .before)) (omega arith) (omega arith)
+    wrong-field 0 2 (line (c .before .before .before)) (omega arith) (omega arith)
     (sym (c .enum-told .given .1) ∙ c .before .before .number .ensures)
 
 number-requires-2 : tie.Need-number-requires-2
@@ -67,7 +64,7 @@ enum-told-2 c = search needs
 
 returns-4 : tie.Need-returns-4
 returns-4 c =
-    wrong-field 2 10 (line (past-kind (c .before .before .before .before))) (omega arith) (omega arith)
+    wrong-field 2 10 (line (past-kind (c .before .before .before))) (omega arith) (omega arith)
     (sym (c .enum-told2 .given .1) ∙ c .before .before .number2 .ensures)
 
 number-requires-3 : tie.Need-number-requires-3
@@ -81,7 +78,7 @@ enum-told-3 c = search needs
 
 returns-5 : tie.Need-returns-5
 returns-5 c =
-    wrong-field 10 12 (line (past-kind (past-who (c .before .before .before .before)))) (omega arith) (omega arith)
+    wrong-field 10 12 (line (past-kind (past-who (c .before .before .before)))) (omega arith) (omega arith)
     (sym (c .enum-told3 .given .1) ∙ c .before .before .number3 .ensures)
 
 number-requires-4 : tie.Need-number-requires-4
@@ -95,7 +92,7 @@ enum-told-4 c = search needs
 
 returns-6 : tie.Need-returns-6
 returns-6 c =
-    wrong-field 12 28 (line (past-kind (past-who (past-what (c .before .before .before .before))))) (omega arith) (omega arith)
+    wrong-field 12 28 (line (past-kind (past-who (past-what (c .before .before .before))))) (omega arith) (omega arith)
     (sym (c .enum-told4 .given .1) ∙ c .before .before .number4 .ensures)
 
 -- where all four fields are known, the line has the shape of a frame
@@ -131,7 +128,6 @@ read-spec =
     returns
     shared-slice-read-if2
     returns-2
-    digit-values-requires
     number-requires
     enum-known-kind
     enum-told

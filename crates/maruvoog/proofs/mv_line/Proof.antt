@@ -26,6 +26,9 @@ bad-read : (ws l : List ℕ) → none ≡ read-frame l → Leaves (line-words ws
 unfolding line-words asked-words rules.number-of
 bad-read ws l e = record { answer = rw (← e); words = rw (← e) }
 
+digit-values-requires : tie.Need-digit-values-requires
+digit-values-requires c κs = search needs
+
 read-requires : tie.Need-read-requires
 read-requires c κs = search needs
 
@@ -34,7 +37,7 @@ enum-known-parsed c = search needs
 
 -- where a call was read, the line reads as that call
 reads-as : (c : tie.After-parsed)
-    → some (call-of (c .parsed .given .0 .0)) ≡ read-frame (c .before .before .before .before .before .args .line .now)
+    → some (call-of (c .parsed .given .0 .0)) ≡ read-frame (c .before .before .before .before .before .before .before .args .line .now)
 reads-as c = ap parsed-as (sym (c .parsed .given .1)) ∙ c .before .before .read .ensures
 
 one-requires : tie.Need-one-requires
@@ -56,4 +59,5 @@ returns-2 c = bad-read _ _ (ap parsed-as (sym (c .enum-told .given .1)) ∙ c .b
 
 pub mv-line-spec : {M : Type 1} → statement M
 mv-line-spec =
-    tie.close (tie.spec read-requires enum-known-parsed one-requires enum-told same-length returns returns-2)
+    tie.close
+    (tie.spec digit-values-requires read-requires enum-known-parsed one-requires enum-told same-length returns returns-2)
