@@ -48,6 +48,10 @@ pub record Index (ws : List ℕ) (n : ℕ) (head before : List ℕ) : Type 0 whe
   pub heads : (b : ℕ) → b < buckets → getD head b 0 ≡ highest n (in-bucket ws b)
   pub befores : (i : ℕ) → i < n → getD before i 0 ≡ highest i (in-bucket ws (bucket-of (key ws i)))
 
+-- a bucket's last record is one of those indexed
+pub head-low : (ws : List ℕ) (n : ℕ) (head before : List ℕ) → Index ws n head before → (b : ℕ) → b < buckets → getD head b 0 ≤ n
+head-low ws n head before index b h = omega (arith, index .heads b h, highest-le (in-bucket ws b) n)
+
 -- an index of no records
 pub no-records : (ws : List ℕ) → Index ws 0 (replicate buckets 0) (replicate log-room 0)
 unfolding highest
@@ -166,3 +170,6 @@ module _ (ws : List ℕ) (n x place : ℕ) (up : 0 < place) (w : Walk ws n x pla
   falls-by-one head before index =
       let e = index .befores (place - 1) (omega (arith, w .low)) in
       omega (arith, highest-le (in-bucket ws (bucket-of (key ws (place - 1)))) (place - 1))
+
+  pub falls-far : (head before : List ℕ) → Index ws n head before → n ≤ log-room → getD before (place - 1) 0 < 1024
+  falls-far head before index room = omega (arith, falls-by-one head before index, w .low)

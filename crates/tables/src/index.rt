@@ -11,9 +11,9 @@ use calls::Lsn;
 use calls::Txn;
 
 // The index: of each bucket its last record, of each record the one before it in its bucket.
-pub type Heads = [usize; 1024];
+pub type Heads = [u16; 1024];
 
-pub type Befores = [usize; 512];
+pub type Befores = [u16; 512];
 
 // The bucket of a transaction number.
 fn bucket(x: Txn) -> usize
@@ -32,7 +32,7 @@ pub fn insert(words: &[u64], head: &mut Heads, before: &mut Befores, i: usize)
     };
     let b = bucket(x);
     before[i] = head[b];
-    head[b] = i + 1;
+    head[b] = (i + 1) as u16;
 }
 
 // The log number of a transaction among the first `count` records, or 0 where none names it: down its bucket from the
@@ -42,13 +42,13 @@ pub fn find(words: &[u64], head: &Heads, before: &Befores, count: usize, x: Txn)
     ensures { λ r. ⌜ r .num ≡ number-among (now (words .entry)) count (x .num) ⌝ }
 {
     let b = bucket(x);
-    let mut at = head[b];
+    let mut at = head[b] as usize;
     while at > 0 {
         // Record `at` is the word before LOG + at.
         if words[at + 1] == x.num {
             return Lsn { num: at as u64 };
         }
-        at = before[at - 1];
+        at = before[at - 1] as usize;
     }
     Lsn { num: 0 }
 }

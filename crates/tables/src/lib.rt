@@ -15,8 +15,8 @@ fn rest_sound(words: &[u64]) -> bool
     requires { ⌜ CountsTest (now words) ⌝ }
     ensures { λ r. ⌜ Tells r (RestTest (now (words .entry))) ⌝ }
 {
-    let mut head = [0usize; 1024];
-    let mut before = [0usize; 512];
+    let mut head = [0u16; 1024];
+    let mut before = [0u16; 512];
     let count = words[layout::LOG_COUNT] as usize;
     if !log::records_sound(words, &mut head, &mut before, count) {
         return false;
