@@ -168,8 +168,8 @@ fn chain_sound(
     holder_sound(words, o, last.seat)
 }
 
-// Whether the words past a chain's end are 0.
-fn past_zero(words: &[u64], o: Obj, n: usize) -> bool
+// Whether the words of a chain from entry n on are 0. They are gathered and tested once, so that several go at a time.
+fn zero_from(words: &[u64], o: Obj, n: usize) -> bool
     requires { ⌜ (length (now words) ≡ word-count) × (o .num < object-count) × (n ≤ chain-room) ⌝ }
     ensures { λ r. ⌜ Tells r (PastChain (now (words .entry)) (o .num) n) ⌝ }
 {
@@ -181,6 +181,17 @@ fn past_zero(words: &[u64], o: Obj, n: usize) -> bool
         j += 1;
     }
     all == 0
+}
+
+// Whether the words past a chain's end are 0. Most chains are empty: for those it is one loop of fixed length.
+fn past_zero(words: &[u64], o: Obj, n: usize) -> bool
+    requires { ⌜ (length (now words) ≡ word-count) × (o .num < object-count) × (n ≤ chain-room) ⌝ }
+    ensures { λ r. ⌜ Tells r (PastChain (now (words .entry)) (o .num) n) ⌝ }
+{
+    if n == 0 {
+        return zero_from(words, o, 0);
+    }
+    zero_from(words, o, n)
 }
 
 // Whether a stable version is all zeros, or its transaction is the one that the record of its log number names.

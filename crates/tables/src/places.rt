@@ -82,19 +82,10 @@ fn free_sound(words: &[u64], p: usize) -> bool
     requires { ⌜ (length (now words) ≡ word-count) × (p < place-count) ⌝ }
     ensures { λ r. ⌜ Tells r (FreeTest (now (words .entry)) p) ⌝ }
 {
-    if words[layout::ACCESSED + p] != 0 {
-        return false;
-    }
-    if words[layout::WRITTEN + p] != 0 {
-        return false;
-    }
-    if words[layout::PREPARED + p] != 0 {
-        return false;
-    }
-    if words[layout::DEPENDS + p] != 0 {
-        return false;
-    }
-    true
+    let objects = words[layout::ACCESSED + p]
+        | words[layout::WRITTEN + p]
+        | words[layout::PREPARED + p];
+    objects | words[layout::DEPENDS + p] == 0
 }
 
 // Whether a transaction's number was given out, is no earlier place's and is not logged, and its sets are sound.
