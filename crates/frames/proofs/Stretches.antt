@@ -21,19 +21,19 @@ use Rattle.frames.specs.Parts.{digit-characters, no-digit, value-of, dig
 -- ---- the tables
 
 -- the digit of each number
-pub character-at : (n : ℕ) → n < 16 → getD digit-characters n 0 ≡ digit n
+pub character-at : {cs : List ℕ} → cs ≡ digit-characters → (n : ℕ) → n < 16 → getD cs n 0 ≡ digit n
 unfolding digit-characters
-character-at n h = getD-row 16 digit n 0 h
+character-at e n h = rw e (getD-row 16 digit n 0 h)
 
 -- which is a byte
-pub digit-byte : (n : ℕ) → n < 16 → digit n < 256
+pub character-byte : {cs : List ℕ} → cs ≡ digit-characters → (n : ℕ) → n < 16 → getD cs n 0 < 256
 unfolding every
-digit-byte n h = ltb→lt (digit n) 256 (every-at 16 (λ n. ltb (digit n) 256) tt n h)
+character-byte e n h = rw (character-at e n h) (ltb→lt (digit n) 256 (every-at 16 (λ n. ltb (digit n) 256) tt n h))
 
 -- the entry of each byte
-pub value-at : (b : ℕ) → b < 256 → getD digit-values b 0 ≡ value-of b
+pub value-at : {vs : List ℕ} → vs ≡ digit-values → (b : ℕ) → b < 256 → getD vs b 0 ≡ value-of b
 unfolding digit-values
-value-at b h = getD-row 256 value-of b 0 h
+value-at e b h = rw e (getD-row 256 value-of b 0 h)
 
 -- an entry is at most that of no digit
 pub entry-bound : (b : ℕ) → value-of b ≤ no-digit

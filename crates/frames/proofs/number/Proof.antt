@@ -1,7 +1,7 @@
 -- `frames::number` meets its contract. The loop's invariant: what the bytes passed stand for, and the bytes still to pass,
 -- give what the whole field gives, and it is no larger than as many bytes can stand for, so that eight fit.
 -- The measure is what is left of the field. Assumes nothing.
-use mathlib.Core.Path.{_≡_, refl, sym, ap, _∙_}
+use mathlib.Core.Path.{_≡_, refl, sym, _∙_}
 use Prim.Native.Nat.{ℕ, _+_, _-_, _*_, _^_, _≤_, _<_}
 use native.Mathlib.Omega.{arith}
 use lib.ListN.{getD}
@@ -38,7 +38,7 @@ module _ (c : tie.After-shared-slice-known Inv-loop μ-loop) where
 
   -- what the table has for it
   found : getD (c .before .before .before .args .values .now) byte 0 ≡ value-of byte
-  found = ap (λ l. getD l byte 0) (c .before .before .before .pre .0) ∙ value-at byte is-byte
+  found = value-at (c .before .before .before .pre .0) byte is-byte
 
   fits : c .before .before .loop .number * 16 + value-of byte < 2 ^ 64
   fits =

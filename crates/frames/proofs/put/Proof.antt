@@ -3,8 +3,8 @@
 use mathlib.Core.Path.{_≡_, refl, sym, ap, _∙_}
 use Prim.Native.Nat.{suc, _-_, _%_, _≤_}
 use native.Mathlib.Omega.{arith}
-use lib.ListN.{length, getD, length-set}
-use Rattle.rules.specs.Frames.{digit, digits}
+use lib.ListN.{length, length-set}
+use Rattle.rules.specs.Frames.{digits}
 use Rattle.frames.specs.Parts.{over}
 use Rattle.frames.proofs.Rooms.{over-none, over-digit}
 use Rattle.frames.proofs.Stretches.{character-at}
@@ -38,14 +38,6 @@ slice-write-room c = omega arith
 loop-less : tie.Need-loop-less Inv-loop μ-loop
 loop-less c = omega arith
 
--- what the table has for the last digit
-found : (c : tie.After-room Inv-loop μ-loop)
-    → let head = c .before .before in
-    getD (head .before .args .characters .now) (head .loop .rest % 16) 0 ≡ digit (head .loop .rest % 16)
-found c =
-    let head = c .before .before in
-    ap (λ l. getD l (head .loop .rest % 16) 0) (head .before .pre .0) ∙ character-at (head .loop .rest % 16) (omega arith)
-
 loop-again : tie.Need-loop-again Inv-loop μ-loop
 loop-again c =
     let at = c .before .before in
@@ -53,7 +45,7 @@ loop-again c =
     let one-less : suc (at .loop .left - 1) ≡ at .loop .left = omega arith in (
       omega arith,
       simp length-set (omega arith),
-      rw (found c)
+      rw (character-at (at .before .pre .0) (at .loop .rest % 16) (omega arith))
           (over-digit (at .loop .room) place (at .loop .left - 1) (at .loop .rest) (omega arith)
           ∙ ap (λ k. over (at .loop .room) place (digits k (at .loop .rest))) one-less
           ∙ at .loop .inv .2),
