@@ -1,79 +1,71 @@
--- A field byte by byte: what the table has for a byte, what the first byte says of what the field gives, and how large
--- the number of the digits passed is.
--- Rests on the rules' Tests and Frames, on basics' Logic and Ranges, on frames_laws' Digits, and on Parts. Assumes nothing.
-use mathlib.Core.Path.{_≡_, sym, _∙_}
-use mathlib.Core.Bool.{false}
+-- A field byte by byte: what the tables have for a byte and for a number, what the first byte adds, and how large what
+-- the bytes passed stand for is.
+-- Rests on the rules' Frames, on basics' Logic and Ranges, on frames_laws' Digits, and on Parts. Assumes nothing.
+use mathlib.Core.Path.{_≡_}
 use mathlib.Core.List.{List, _∷_}
-use mathlib.Core.Logic.{_⊎_, inl, inr}
+use mathlib.Core.Logic.{⊎-elim}
 use Prim.Native.Nat.{ℕ, suc, _+_, _-_, _*_, _^_, _≤_, _<_}
 use native.Mathlib.Nat.{pow-suc, pow-le-pow-right}
 use native.Mathlib.Numerals.{add-one}
 use native.Mathlib.Omega.{arith}
-use lib.Dec.{T}
+use lib.Dec.{T, ltb, ltb→lt}
 use lib.ListN.{length, getD}
 use lib.Seq.{drop-cons}
-use Rattle.rules.specs.Tests.{all}
-use Rattle.rules.specs.Frames.{is-digit, digit-value, number-after}
-use Rattle.basics.specs.Logic.{passes-or-fails, is-true, is-false, cond-true, cond-false}
-use Rattle.basics.specs.Ranges.{getD-row}
+use Rattle.rules.specs.Tests.{every}
+use Rattle.rules.specs.Frames.{is-digit, digit-value, digit}
+use Rattle.basics.specs.Logic.{passes-or-fails, cond-true, cond-false}
+use Rattle.basics.specs.Ranges.{every-at, getD-row}
 use Rattle.frames_laws.specs.Digits.{value-bound}
-use Rattle.frames.specs.declared.Digits.the-variants.{Number, Mixed}
-use Rattle.frames.specs.Parts.{value-or-none, digit-values, field, digits-after}
+use Rattle.frames.specs.Parts.{digit-characters, no-digit, value-of, digit-values, field, sum-after}
 
--- ---- the table of digits
+-- ---- the tables
+
+-- the digit of each number
+pub character-at : {cs : List ℕ} → cs ≡ digit-characters → (n : ℕ) → n < 16 → getD cs n 0 ≡ digit n
+unfolding digit-characters
+character-at e n h = rw e (getD-row 16 digit n 0 h)
+
+-- which is a byte
+pub character-byte : {cs : List ℕ} → cs ≡ digit-characters → (n : ℕ) → n < 16 → getD cs n 0 < 256
+unfolding every
+character-byte e n h = rw (character-at e n h) (ltb→lt (digit n) 256 (every-at 16 (λ n. ltb (digit n) 256) tt n h))
 
 -- the entry of each byte
-pub value-at : (b : ℕ) → b < 256 → getD digit-values b 0 ≡ value-or-none b
+pub value-at : {vs : List ℕ} → vs ≡ digit-values → (b : ℕ) → b < 256 → getD vs b 0 ≡ value-of b
 unfolding digit-values
-value-at b h = getD-row 256 value-or-none b 0 h
+value-at e b h = rw e (getD-row 256 value-of b 0 h)
 
-no-digit : (b : ℕ) → value-or-none b ≡ 255 → is-digit b ≡ false
-no-digit b e =
-    is-false (is-digit b) (λ t. omega (arith, value-bound b t, sym (cond-true (is-digit b) (digit-value b) 255 t) ∙ e))
-
-a-digit : (b : ℕ) → (value-or-none b ≡ 255 → ⊥) → T (is-digit b) × (value-or-none b ≡ digit-value b)
-a-digit b f = go (passes-or-fails (is-digit b))
-  where
-    go : T (is-digit b) ⊎ (T (is-digit b) → ⊥) → T (is-digit b) × (value-or-none b ≡ digit-value b)
-    go (inl t) = (t, cond-true (is-digit b) (digit-value b) 255 t)
-    go (inr g) = absurd (f (cond-false (is-digit b) (digit-value b) 255 g))
-
--- the entry of a digit is below 16
-pub entry-bound : (b : ℕ) → (value-or-none b ≡ 255 → ⊥) → value-or-none b < 16
-entry-bound b f = let (t, e) = a-digit b f in rw e (value-bound b t)
+-- an entry is at most that of no digit
+pub entry-bound : (b : ℕ) → value-of b ≤ no-digit
+entry-bound b =
+    ⊎-elim (λ (t : T (is-digit b)). rw (cond-true (is-digit b) (digit-value b) no-digit t) (omega (arith, value-bound b t)))
+    (λ (f : T (is-digit b) → ⊥). rw (cond-false (is-digit b) (digit-value b) no-digit f) (omega arith))
+    (passes-or-fails (is-digit b))
 
 -- ---- the bytes of a field
 
--- past its last byte a field gives the number of the digits passed
-pub at-end : (a i end : ℕ) (l : List ℕ) → end ≤ i → digits-after a (field i end l) ≡ Number a
-unfolding digits-after all number-after
+-- past its last byte
+pub at-end : (a i end : ℕ) (l : List ℕ) → end ≤ i → sum-after a (field i end l) ≡ a
+unfolding sum-after
 at-end a i end l h = let e : end - i ≡ 0 = omega arith in rw e
 
-module _ (a i end : ℕ) (l : List ℕ) (h : i < end) (k : end ≤ length l) where
-  field-more : field i end l ≡ getD l i 0 ∷ field (i + 1) end l
-  field-more =
-      let e : end - i ≡ suc (end - suc i) = omega arith in
-      rw (e, add-one, drop-cons l i 0 (omega arith))
+-- at a byte
+pub at-byte : (a i end : ℕ) (l : List ℕ) → i < end → end ≤ length l
+    → sum-after a (field i end l) ≡ sum-after (a * 16 + value-of (getD l i 0)) (field (i + 1) end l)
+unfolding sum-after
+at-byte a i end l h k =
+    let e : end - i ≡ suc (end - suc i) = omega arith in
+    rw (e, add-one, drop-cons l i 0 (omega arith))
 
-  -- a digit adds to the number
-  pub at-digit : (value-or-none (getD l i 0) ≡ 255 → ⊥)
-      → digits-after a (field i end l) ≡ digits-after (a * 16 + value-or-none (getD l i 0)) (field (i + 1) end l)
-  unfolding digits-after all number-after
-  at-digit f = let (t, e) = a-digit (getD l i 0) f in rw (e, field-more, is-true (is-digit (getD l i 0)) t)
+-- ---- how large it is
 
-  -- any other character spoils it
-  pub at-other : value-or-none (getD l i 0) ≡ 255 → digits-after a (field i end l) ≡ Mixed
-  unfolding digits-after all
-  at-other e = rw (field-more, no-digit (getD l i 0) e)
-
--- ---- how large the number is
-
--- one digit more is four bits more
-pub one-more : (from i v d : ℕ) → from ≤ i → v < 16 ^ (i - from) → d < 16 → v * 16 + d < 16 ^ (i + 1 - from)
+-- one byte more is four bits more
+pub one-more : (from i v d : ℕ) → from ≤ i → v + no-digit ≤ no-digit * 16 ^ (i - from) → d ≤ no-digit
+    → v * 16 + d + no-digit ≤ no-digit * 16 ^ (i + 1 - from)
 one-more from i v d p h g = let e : i + 1 - from ≡ suc (i - from) = omega arith in rw (e, pow-suc) (omega arith)
 
--- after fewer than sixteen digits one more fits
-pub one-fits : (k v d : ℕ) → k < 16 → v < 16 ^ k → d < 16 → v * 16 + d < 2 ^ 64
+-- after fewer than eight bytes one more fits
+pub one-fits : (k v d : ℕ) → k < 8 → v + no-digit ≤ no-digit * 16 ^ k → d ≤ no-digit → v * 16 + d < 2 ^ 64
 one-fits k v d g h b =
-    let most : 16 ^ k ≤ 16 ^ 15 = pow-le-pow-right {n = 16} (omega arith) {i = k} {j = 15} (omega arith) in
+    let most : 16 ^ k ≤ 16 ^ 7 = pow-le-pow-right {n = 16} (omega arith) {i = k} {j = 7} (omega arith) in
     omega arith

@@ -2,43 +2,52 @@
 -- room with a stretch written over.
 -- Rests on the rules' Tests, Tables, Answers and Frames, and on calls' Meaning.
 use mathlib.Core.Bool.{Bool, cond, _&&_}
-use mathlib.Core.List.{List, _++_}
+use mathlib.Core.List.{List, [], _∷_, _++_}
 use mathlib.Core.Option.{Option, none, some}
-use Prim.Native.Nat.{ℕ, _+_, _-_}
+use Prim.Native.Nat.{ℕ, _+_, _-_, _*_}
 use lib.Dec.{leb}
 use lib.ListN.{length, getD, take, drop}
-use Rattle.rules.specs.Tests.{all, row}
+use Rattle.rules.specs.Tests.{row}
 use Rattle.rules.specs.Tables.{txn, obj}
 use Rattle.rules.specs.Answers.{is-start}
 use Rattle.rules.specs.Answers as rules
-use Rattle.rules.specs.Frames.{Fields, fields-of, is-digit, digit-value, number-after, kinds, unused-zero}
+use Rattle.rules.specs.Frames.{Fields, fields-of, is-digit, digit-value, digit, kinds, unused-zero}
 use Rattle.calls.specs.Meaning.{kind-of}
-use Rattle.frames.specs.declared.Digits.{Digits}
-use Rattle.frames.specs.declared.Digits.the-variants.{Number, Mixed}
 use Rattle.frames.specs.declared.Named.{Named}
 use Rattle.frames.specs.declared.Named.the-variants.{Is, Nothing}
 
--- ---- fields
+-- ---- digits
 
--- what a byte stands for as a digit: 255 where it is none
-abbrev pub value-or-none : ℕ → ℕ
-value-or-none b = cond (is-digit b) (digit-value b) 255
+-- the digits, from that of 0 on
+unfoldable pub digit-characters : List ℕ
+digit-characters = row 16 digit
+
+-- what a byte stands for that is no digit: more than eight digits can
+abbrev pub no-digit : ℕ
+no-digit = 0x100000000
+
+-- what a byte stands for
+abbrev pub value-of : ℕ → ℕ
+value-of b = cond (is-digit b) (digit-value b) no-digit
 
 -- what each byte stands for
 unfoldable pub digit-values : List ℕ
-digit-values = row 256 value-or-none
+digit-values = row 256 value-of
+
+-- ---- fields
 
 -- the bytes of a line from a place up to another
 abbrev pub field : ℕ → ℕ → List ℕ → List ℕ
 field from end l = take (end - from) (drop from l)
 
--- the number of a stretch of digits, after those that stand for a, unless another character is among them
-unfoldable pub digits-after : ℕ → List ℕ → Digits
-digits-after a l = cond (all is-digit l) (Number (number-after a l)) Mixed
+-- what the bytes of a stretch stand for together, after those that stand for a
+unfoldable pub sum-after : ℕ → List ℕ → ℕ
+sum-after a [] = a
+sum-after a (b ∷ bs) = sum-after (a * 16 + value-of b) bs
 
--- the number of a field's digits
-abbrev pub digits-in : List ℕ → Digits
-digits-in = digits-after 0
+-- what the bytes of a stretch stand for together
+abbrev pub sum-in : List ℕ → ℕ
+sum-in = sum-after 0
 
 -- ---- kinds
 

@@ -5,9 +5,9 @@ ghost use mathlib.Core.Path.{_≡_};
 ghost use Prim.Native.Nat.{_+_, _/_, _%_, _≤_, _<_};
 ghost use lib.Dec.{T, eqb};
 ghost use lib.ListN.{length};
-ghost use Rattle.rules.specs.Frames.{fields-of, unused-zero, digit, digits, read-frame};
+ghost use Rattle.rules.specs.Frames.{fields-of, unused-zero, digits, read-frame};
 ghost use Rattle.frames.specs.Parsed.{parsed-as, with-answer};
-ghost use Rattle.frames.specs.Parts.{digit-values, field, digits-in, named-as, is-kind, kind-numbered, kind-named, packed, call-numbered, asked, over};
+ghost use Rattle.frames.specs.Parts.{digit-characters, digit-values, field, sum-in, named-as, is-kind, kind-numbered, kind-named, packed, call-numbered, asked, over};
 use calls::Answer;
 use calls::Call;
 use calls::Kind;
@@ -22,14 +22,6 @@ pub enum Parsed {
     Bad,
 }
 
-// What a field of a line holds.
-enum Digits {
-    // Digits alone, and the number that they stand for.
-    Number(u64),
-    // Another character.
-    Mixed,
-}
-
 // What a number names among the kinds.
 enum Named {
     Is(Kind),
@@ -38,11 +30,14 @@ enum Named {
 
 const LINE_FEED: u8 = 10;
 
-// What the table of digits has for every other character.
-const NO_DIGIT: u8 = 255;
+// The characters of the digits, from 0 on.
+const CHARACTERS: [u8; 16] = *b"0123456789abcdef";
 
-// The number that each character stands for as a digit.
-pub type DigitValues = [u8; 256];
+// What the digit values have for every other character: more than eight digits can stand for.
+const NO_DIGIT: u64 = 0x1_0000_0000;
+
+// The number that each character stands for as a digit, or NO_DIGIT.
+pub type DigitValues = [u64; 256];
 
 // The fields of a call, each a part of a sum.
 const TRANSACTION: u8 = 1;
@@ -67,45 +62,31 @@ const USES: [u8; 12] = [
     OBJECT,
 ];
 
-// The digit that stands for a number below 16.
-fn digit(number: u8) -> u8
-    requires { ⌜ number < 16 ⌝ }
-    ensures { λ r. ⌜ r ≡ digit number ⌝ }
-{
-    if number < 10 {
-        48 + number
-    } else {
-        87 + number
-    }
-}
-
-// The digit values. Whoever reads many lines makes them once: a constant table would be made anew at each digit.
+// The digit values. Whoever reads many lines makes them once.
 pub fn digit_values() -> DigitValues
     ensures { λ r. ⌜ r ≡ digit-values ⌝ }
 {
+    let characters = CHARACTERS;
     let mut values = [NO_DIGIT; 256];
     for number in 0..16 {
-        values[digit(number) as usize] = number;
+        values[characters[number] as usize] = number as u64;
     }
     values
 }
 
-// The number of the field from a place of the line up to another.
-fn number(values: &DigitValues, line: &[u8], from: usize, end: usize) -> Digits
+// The number of the digits from a place of the line up to another, at most eight. A character that is no digit makes it
+// NO_DIGIT or more, so that one test tells of all.
+fn number(values: &DigitValues, line: &[u8], from: usize, end: usize) -> u64
     requires { ⌜ now values ≡ digit-values ⌝ }
-    requires { ⌜ (from ≤ end) × (end ≤ length (now line)) × (end ≤ from + 16) ⌝ }
-    ensures { λ r. ⌜ r ≡ digits-in (field from end (now (line .entry))) ⌝ }
+    requires { ⌜ (from ≤ end) × (end ≤ length (now line)) × (end ≤ from + 8) ⌝ }
+    ensures { λ r. ⌜ r ≡ sum-in (field from end (now (line .entry))) ⌝ }
 {
-    let mut number: u64 = 0;
+    let mut number = 0;
     for i in from..end {
         let byte = line[i];
-        let digit = values[byte as usize];
-        if digit == NO_DIGIT {
-            return Digits::Mixed;
-        }
-        number = number * 16 + digit as u64;
+        number = number * 16 + values[byte as usize];
     }
-    Digits::Number(number)
+    number
 }
 
 // The kind of a number.
@@ -186,23 +167,30 @@ pub fn read(values: &DigitValues, line: &[u8]) -> Parsed
     if line[28] != LINE_FEED {
         return Parsed::Bad;
     }
-    let Digits::Number(kind) = number(values, line, 0, 2) else {
+    let kind = number(values, line, 0, 2);
+    let who = number(values, line, 2, 10);
+    let what = number(values, line, 10, 12);
+    let high = number(values, line, 12, 20);
+    let low = number(values, line, 20, 28);
+    let all_digits = (kind < NO_DIGIT)
+        & (who < NO_DIGIT)
+        & (what < NO_DIGIT)
+        & (high < NO_DIGIT)
+        & (low < NO_DIGIT);
+    if !all_digits {
         return Parsed::Bad;
-    };
-    let Digits::Number(who) = number(values, line, 2, 10) else {
-        return Parsed::Bad;
-    };
-    let Digits::Number(what) = number(values, line, 10, 12) else {
-        return Parsed::Bad;
-    };
-    let Digits::Number(value) = number(values, line, 12, 28) else {
-        return Parsed::Bad;
-    };
-    ask(kind, Txn { num: who }, Obj { num: what as usize }, value)
+    }
+    ask(
+        kind,
+        Txn { num: who },
+        Obj { num: what as usize },
+        high * 0x1_0000_0000 + low,
+    )
 }
 
 // Writes a number as so many digits at a place of the room. The last digit comes first: it is what a division leaves.
-fn put(room: &mut [u8], at: usize, count: usize, number: u64)
+fn put(characters: &[u8; 16], room: &mut [u8], at: usize, count: usize, number: u64)
+    requires { ⌜ now characters ≡ digit-characters ⌝ }
     requires { ⌜ at + count ≤ length (now room) ⌝ }
     ensures { λ r. ⌜ now (room .exit) ≡ over (now (room .entry)) at (digits count number) ⌝ }
 {
@@ -210,17 +198,19 @@ fn put(room: &mut [u8], at: usize, count: usize, number: u64)
     let mut left = count;
     while 0 < left {
         left -= 1;
-        room[at + left] = digit((rest % 16) as u8);
+        room[at + left] = characters[(rest % 16) as usize];
         rest /= 16;
     }
 }
 
-// Writes the 19 bytes of an answer's line at a place of the room, from its end to its beginning.
+// Writes the 19 bytes of an answer's line at a place of the room, from its end to its beginning. The characters are taken
+// once: a constant table would be made anew at each digit.
 pub fn write(room: &mut [u8], at: usize, answer: Answer)
     requires { ⌜ at + 19 ≤ length (now room) ⌝ }
     ensures { λ r. ⌜ now (room .exit) ≡ with-answer (now (room .entry)) at answer ⌝ }
 {
+    let characters = CHARACTERS;
     room[at + 18] = LINE_FEED;
-    put(room, at + 2, 16, answer.value);
-    put(room, at, 2, answer.number);
+    put(&characters, room, at + 2, 16, answer.value);
+    put(&characters, room, at, 2, answer.number);
 }

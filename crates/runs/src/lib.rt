@@ -63,6 +63,7 @@ fn bad(text: &[u8]) -> Answered
 }
 
 // Answers the first line of a text. Where the text begins with a frame, that is the line, and nothing looks for its end.
+// What is read is asked at once: to hand it on from a function of its own costs as much as to read it.
 fn first(values: &DigitValues, words: &mut [u64], text: &[u8]) -> Answered
     requires { ⌜ now values ≡ digit-values ⌝ }
     requires { ⌜ T (sound-words (now words)) × (0 < length (now text)) ⌝ }

@@ -1,5 +1,6 @@
--- `frames::digit_values` meets its contract. The loop's invariant: the table has each number passed at its digit, and 255
--- elsewhere. That with all sixteen it has for each byte what the byte stands for is computed once, over the table.
+-- `frames::digit_values` meets its contract. The loop's invariant: the table has each number passed at its digit, and what
+-- no digit stands for elsewhere. That with all sixteen it has for each byte what the byte stands for is computed once,
+-- over the table.
 -- The measure is how many numbers are left. Assumes nothing.
 use mathlib.Core.Path.{_≡_, refl, ap, _∙_}
 use mathlib.Core.List.{List}
@@ -9,13 +10,14 @@ use native.Mathlib.Omega.{arith}
 use lib.ListN.{set, replicate}
 use Rattle.rules.specs.Tests.{row}
 use Rattle.rules.specs.Frames.{digit}
-use Rattle.frames.specs.Parts.{digit-values}
+use Rattle.frames.specs.Parts.{digit-characters, no-digit, digit-values}
+use Rattle.frames.proofs.Stretches.{character-at, character-byte}
 use Rattle.frames.proofs.digit_values.Statement.{statement}
 use Rattle.frames.proofs.digit_values.Tie as tie
 
 -- the table with the numbers below a bound at their digits
 marked : ℕ → List ℕ
-marked zero = replicate 256 255
+marked zero = replicate 256 no-digit
 marked (suc n) = set (marked n) (digit n) n
 
 -- the table's rule, computed
@@ -24,23 +26,27 @@ unfolding marked digit-values row
 all-marked = refl
 
 abbrev Inv-loop : tie.InvT-loop
-Inv-loop values₀ number₀ values number = (number ≤ 16) × (values ≡ marked number)
+Inv-loop characters values₀ number₀ values number =
+    (characters ≡ digit-characters) × (number ≤ 16) × (values ≡ marked number)
 
 abbrev μ-loop : tie.MeasureT-loop
-μ-loop values₀ number₀ values number = 16 - number
+μ-loop characters values₀ number₀ values number = 16 - number
 
 loop-holds : tie.Need-loop-holds Inv-loop μ-loop
-unfolding marked
-loop-holds c = (omega arith, refl)
+unfolding marked digit-characters row
+loop-holds c = (refl, omega arith, refl)
 
-digit-requires : tie.Need-digit-requires Inv-loop μ-loop
-digit-requires c κs = omega arith
+array-read-values : tie.Need-array-read-values Inv-loop μ-loop
+array-read-values c = omega arith
 
 cast-values : tie.Need-cast-values Inv-loop μ-loop
-cast-values c = omega (arith, c .digit .ok)
+cast-values c = omega (arith, character-byte (c .before .loop .inv .0) (c .before .loop .number) (c .loop-test .taken))
+
+mul-values : tie.Need-mul-values Inv-loop μ-loop
+mul-values c = omega (arith, character-byte (c .before .loop .inv .0) (c .before .loop .number) (c .loop-test .taken))
 
 array-write-values : tie.Need-array-write-values Inv-loop μ-loop
-array-write-values c = omega (arith, c .digit .ok)
+array-write-values c = character-byte (c .before .loop .inv .0) (c .before .loop .number) (c .loop-test .taken)
 
 add-number : tie.Need-add-number Inv-loop μ-loop
 add-number c = omega arith
@@ -50,12 +56,17 @@ loop-less c = omega arith
 
 loop-again : tie.Need-loop-again Inv-loop μ-loop
 unfolding marked
-loop-again c = (omega arith, rw (add-one, c .digit .ensures, c .before .before .loop .inv .1))
+loop-again c =
+    let head = c .before in (
+      head .loop .inv .0,
+      omega arith,
+      rw (add-one, character-at (head .loop .inv .0) (head .loop .number) (c .loop-test .taken), head .loop .inv .2),
+    )
 
 returns : tie.Need-returns Inv-loop μ-loop
 returns c =
     let all-passed : c .before .loop .number ≡ 16 = omega arith in
-    c .before .loop .inv .1 ∙ ap marked all-passed ∙ all-marked
+    c .before .loop .inv .2 ∙ ap marked all-passed ∙ all-marked
 
 pub digit-values-spec : {M : Type 1} → statement M
 digit-values-spec =
@@ -64,8 +75,9 @@ digit-values-spec =
     Inv-loop
     μ-loop
     loop-holds
-    digit-requires
+    array-read-values
     cast-values
+    mul-values
     array-write-values
     add-number
     loop-less
