@@ -6,7 +6,7 @@ ghost use Rattle.rules.specs.Tables.{object-count, chain-room};
 ghost use Rattle.rules.specs.Layout.{holder-at, saved-count-at, word-count, word};
 ghost use Rattle.ends_laws.specs.Objects.{unlock as unlocked-words};
 ghost use Rattle.ends_laws.specs.Entries.{writer-place, put-entry, clear as cleared, slide as slid, trim as trimmed};
-ghost use Rattle.ends_laws.specs.Scans.{falls-in, first-fall as first-fall-in};
+ghost use Rattle.ends_laws.specs.Scans.{sits-in, falls-in, first-fall as first-fall-in};
 ghost use Rattle.ends_laws.specs.Cuts.{keep-saved as saved-kept, cut-chain as chain-cut};
 ghost use Rattle.ends_laws.specs.Undo.{unlock-fallen as fallen-unlocked, no-entries as no-entries-in, undo-chain as undone-chain, undo-object as undone-object};
 ghost use Rattle.ends_laws.specs.Settle.{settle-number as settle-number-in, put-stable as stable-put, settle-object as settled-object};
@@ -43,20 +43,25 @@ pub fn writer_at(words: &[u64], o: Obj, j: usize) -> Txn
     }
 }
 
-// Whether the transaction x is one of those at the places f.
-fn falls(words: &[u64], f: u64, x: Txn) -> bool
+// Whether the place with the number x is one of f.
+fn sits(words: &[u64], f: u64, x: Txn) -> bool
     requires { ⌜ length (now words) ≡ word-count ⌝ }
-    ensures { λ r. ⌜ r ≡ falls-in (now (words .entry)) f (x .num) ⌝ }
+    ensures { λ r. ⌜ r ≡ sits-in (now (words .entry)) f (x .num) ⌝ }
 {
-    if x.num == 0 {
-        return false;
-    }
     let p = lookups::seat(words, x);
     if p < 32 {
         sets::has(f, p as u64)
     } else {
         false
     }
+}
+
+// Whether the transaction x is one of those at the places f.
+fn falls(words: &[u64], f: u64, x: Txn) -> bool
+    requires { ⌜ length (now words) ≡ word-count ⌝ }
+    ensures { λ r. ⌜ r ≡ falls-in (now (words .entry)) f (x .num) ⌝ }
+{
+    if x.num == 0 { false } else { sits(words, f, x) }
 }
 
 // The first entry of object o's chain whose writer is one of those at the places f, or 8 where there is none.
@@ -127,7 +132,12 @@ fn unlock_fallen(words: &mut [u64], f: u64, o: Obj)
     requires { ⌜ (length (now words) ≡ word-count) × (o .num < object-count) ⌝ }
     ensures { λ r. ⌜ now (words .exit) ≡ fallen-unlocked f (o .num) (now (words .entry)) ⌝ }
 {
-    if falls(words, f, holder(words, o)) {
+    let x = holder(words, o);
+    // Nearly every lock is free: no place is searched for its holder.
+    if x.num == 0 {
+        return;
+    }
+    if sits(words, f, x) {
         unlock(words, o);
     }
 }

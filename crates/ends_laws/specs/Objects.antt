@@ -1,7 +1,7 @@
 -- Words of one object: what its lock, its counts and its chain's entries are after they are written, in packed tables.
 -- Rests on the rules' Layout, on basics, words_laws and Loops. Assumes nothing.
 use mathlib.Core.Path.{_≡_, refl, ap, sym, _∙_, subst}
-use mathlib.Core.Bool.{Bool, true, false, _&&_}
+use mathlib.Core.Bool.{true, false, and-false}
 use mathlib.Core.Logic.{⊎-elim}
 use mathlib.Core.List.{List}
 use Prim.Native.Nat.{ℕ, _+_, _<_}
@@ -25,10 +25,6 @@ itself i = is-true (eqb i i) (eqb-refl i)
 
 pub another : (k i : ℕ) → (k ≡ i → ⊥) → eqb k i ≡ false
 another k i d = is-false (eqb k i) (λ t. d (equal-says k i .0 t))
-
-pub and-false : (b : Bool) → (b && false) ≡ false
-and-false true = refl
-and-false false = refl
 
 -- ---- one object written anew
 
