@@ -1,7 +1,7 @@
 // The words of one object: who falls with a set of places, its lock, its chain's entries, its stable version.
 ghost use mathlib.Core.Path.{_≡_};
 ghost use Prim.Native.Nat.{_+_, _<_, _≤_, _^_, min};
-ghost use lib.ListN.{length};
+ghost use lib.ListN.{length, set};
 ghost use Rattle.rules.specs.Tables.{object-count, chain-room};
 ghost use Rattle.rules.specs.Layout.{holder-at, saved-count-at, word-count, word};
 ghost use Rattle.ends_laws.specs.Objects.{unlock as unlocked-words};
@@ -77,14 +77,22 @@ fn first_fall(words: &[u64], f: u64, o: Obj) -> usize
     8
 }
 
+// Sets two words that go together: those of a lock, of an entry, of a chain's counts.
+fn put_two(words: &mut [u64], a: usize, x: u64, b: usize, y: u64)
+    requires { ⌜ (a < length (now words)) × (b < length (now words)) ⌝ }
+    ensures { λ r. ⌜ now (words .exit) ≡ set (set (now (words .entry)) a x) b y ⌝ }
+{
+    words[a] = x;
+    words[b] = y;
+}
+
 // Frees the lock of object o.
 fn unlock(words: &mut [u64], o: Obj)
     requires { ⌜ (length (now words) ≡ word-count) × (o .num < object-count) ⌝ }
     ensures { λ r. ⌜ now (words .exit) ≡ unlocked-words (o .num) (now (words .entry)) ⌝ }
 {
     let i = o.num;
-    words[770 + i] = 0;
-    words[802 + i] = 0;
+    put_two(words, 770 + i, 0, 802 + i, 0);
 }
 
 // Sets entry j of object o's chain.
@@ -93,8 +101,8 @@ fn set_entry(words: &mut [u64], o: Obj, j: usize, value: u64, writer: Txn)
     ensures { λ r. ⌜ now (words .exit) ≡ put-entry (o .num) j value (writer .num) (now (words .entry)) ⌝ }
 {
     let i = o.num;
-    words[898 + (8 * i + j)] = value;
-    words[1154 + (8 * i + j)] = writer.num;
+    let at = 8 * i + j;
+    put_two(words, 898 + at, value, 1154 + at, writer.num);
 }
 
 // Clears the entries of object o's chain from n on.
@@ -113,8 +121,7 @@ fn trim(words: &mut [u64], o: Obj, saved: u64, queued: u64)
     ensures { λ r. ⌜ now (words .exit) ≡ trimmed (o .num) saved queued (now (words .entry)) ⌝ }
 {
     let i = o.num;
-    words[834 + i] = saved;
-    words[866 + i] = queued;
+    put_two(words, 834 + i, saved, 866 + i, queued);
     clear(words, o, (saved + queued) as usize);
 }
 

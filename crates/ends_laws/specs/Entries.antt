@@ -29,7 +29,7 @@ abbrev pub writer-place : ℕ → ℕ → ℕ
 writer-place i j = chain-writer-at + (chain-room * i + j)
 
 -- entry j of object i's chain set to a value and a writer
-unfoldable pub put-entry : ℕ → ℕ → ℕ → ℕ → List ℕ → List ℕ
+abbrev pub put-entry : ℕ → ℕ → ℕ → ℕ → List ℕ → List ℕ
 put-entry i j x y ws = set (set ws (value-place i j) x) (writer-place i j) y
 
 -- the entries from n on zero
@@ -87,7 +87,7 @@ module _ (i : ℕ) (h : i < object-count) (at F G : ℕ → ℕ) (v : View) wher
   entry-more : (m : ℕ) (ws : List ℕ) (x y : ℕ) → at m < chain-room → Shows ws (put-entries i at F G m v) → x ≡ F (at m)
       → y ≡ G (at m)
       → Shows (put-entry i (at m) x y ws) (put-entries i at F G (suc m) v)
-  unfolding put-entry some-below
+  unfolding some-below
   entry-more m ws x y g s ex ey =
       let was = put-entries i at F G m v in
       let ws′ = set ws (value-place i (at m)) x in

@@ -136,12 +136,11 @@ module _ (u : Tables) (n : length (u .objects) ≡ object-count) (i : ℕ) (h : 
 -- ---- the lock
 
 -- object i's lock free
-unfoldable pub unlock : ℕ → List ℕ → List ℕ
+abbrev pub unlock : ℕ → List ℕ → List ℕ
 unlock i ws = set (set ws (holder-at + i) 0) (working-at + i) 0
 
 pub unlock-packs : (u : Tables) → length (u .objects) ≡ object-count → (i : ℕ) → i < object-count
     → unlock i (pack u) ≡ pack (with-object u (obj i) (unlocked (object u (obj i))))
-unfolding unlock
 unlock-packs u n i h =
     let o = itself i in
     object-packed u n i h b (set (set (pack u) (holder-at + i) 0) (working-at + i) 0) v
