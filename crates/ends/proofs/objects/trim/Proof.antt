@@ -1,8 +1,8 @@
 -- `ends::objects::trim` meets its contract. It is what its two callees leave, one after the other.
 -- Assumes nothing.
-use mathlib.Core.Path.{ap, _∙_}
 use Prim.Native.Nat.{_+_}
 use borrow.Author.Needs.{needs}
+use Rattle.ends_laws.specs.Loops.{after}
 use Rattle.ends_laws.specs.Entries.{clear, trim}
 use Rattle.ends.proofs.objects.trim.Statement.{statement}
 use Rattle.ends.proofs.objects.trim.Tie as tie
@@ -30,7 +30,7 @@ unfolding trim
 returns c =
     let put-two-call = c .before .before .before .before .before .before .put-two in
     let a = c .before .before .before .before .before .before .before .before .before .args in
-    c .before .before .clear .ensures ∙ ap (clear (a .o .num) (a .saved + a .queued)) (put-two-call .ensures)
+    after (clear (a .o .num) (a .saved + a .queued)) (put-two-call .ensures) (c .before .before .clear .ensures)
 
 pub trim-spec : {M : Type 1} → statement M
 trim-spec =

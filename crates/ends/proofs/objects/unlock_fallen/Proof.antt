@@ -46,12 +46,11 @@ same-length-2 c = search needs
 
 returns-2 : tie.Need-returns-2
 returns-2 c =
-    let unlock-call = c .before .before .unlock in
     let tested = c .before .before .before .before in
     let call = held (tested .before) .holder in
     let a = entry (held (tested .before)) .args in
     lock-freed (a .f) (a .o .num) (a .words .now) (call .result .num) (call .ensures)
-    (answer (tested .before) true (tested .if2 .taken)) (unlock-call .last .0) (unlock-call .ensures)
+    (answer (tested .before) true (tested .if2 .taken)) (c .before .before .unlock .ensures)
 
 same-length-3 : tie.Need-same-length-3
 same-length-3 c = search needs
