@@ -1,12 +1,12 @@
 // The words of one object: who falls with a set of places, its lock, its chain's entries, its stable version.
 ghost use mathlib.Core.Path.{_≡_};
 ghost use Prim.Native.Nat.{_+_, _<_, _≤_, _^_, min};
-ghost use lib.ListN.{length};
+ghost use lib.ListN.{length, set};
 ghost use Rattle.rules.specs.Tables.{object-count, chain-room};
 ghost use Rattle.rules.specs.Layout.{holder-at, saved-count-at, word-count, word};
 ghost use Rattle.ends_laws.specs.Objects.{unlock as unlocked-words};
 ghost use Rattle.ends_laws.specs.Entries.{writer-place, put-entry, clear as cleared, slide as slid, trim as trimmed};
-ghost use Rattle.ends_laws.specs.Scans.{falls-in, first-fall as first-fall-in};
+ghost use Rattle.ends_laws.specs.Scans.{sits-in, falls-in, first-fall as first-fall-in};
 ghost use Rattle.ends_laws.specs.Cuts.{keep-saved as saved-kept, cut-chain as chain-cut};
 ghost use Rattle.ends_laws.specs.Undo.{unlock-fallen as fallen-unlocked, no-entries as no-entries-in, undo-chain as undone-chain, undo-object as undone-object};
 ghost use Rattle.ends_laws.specs.Settle.{settle-number as settle-number-in, put-stable as stable-put, settle-object as settled-object};
@@ -43,20 +43,25 @@ pub fn writer_at(words: &[u64], o: Obj, j: usize) -> Txn
     }
 }
 
-// Whether the transaction x is one of those at the places f.
-fn falls(words: &[u64], f: u64, x: Txn) -> bool
+// Whether the place with the number x is one of f.
+fn sits(words: &[u64], f: u64, x: Txn) -> bool
     requires { ⌜ length (now words) ≡ word-count ⌝ }
-    ensures { λ r. ⌜ r ≡ falls-in (now (words .entry)) f (x .num) ⌝ }
+    ensures { λ r. ⌜ r ≡ sits-in (now (words .entry)) f (x .num) ⌝ }
 {
-    if x.num == 0 {
-        return false;
-    }
     let p = lookups::seat(words, x);
     if p < 32 {
         sets::has(f, p as u64)
     } else {
         false
     }
+}
+
+// Whether the transaction x is one of those at the places f.
+fn falls(words: &[u64], f: u64, x: Txn) -> bool
+    requires { ⌜ length (now words) ≡ word-count ⌝ }
+    ensures { λ r. ⌜ r ≡ falls-in (now (words .entry)) f (x .num) ⌝ }
+{
+    if x.num == 0 { false } else { sits(words, f, x) }
 }
 
 // The first entry of object o's chain whose writer is one of those at the places f, or 8 where there is none.
@@ -72,14 +77,22 @@ fn first_fall(words: &[u64], f: u64, o: Obj) -> usize
     8
 }
 
+// Sets two words that go together: those of a lock, of an entry, of a chain's counts.
+fn put_two(words: &mut [u64], a: usize, x: u64, b: usize, y: u64)
+    requires { ⌜ (a < length (now words)) × (b < length (now words)) ⌝ }
+    ensures { λ r. ⌜ now (words .exit) ≡ set (set (now (words .entry)) a x) b y ⌝ }
+{
+    words[a] = x;
+    words[b] = y;
+}
+
 // Frees the lock of object o.
 fn unlock(words: &mut [u64], o: Obj)
     requires { ⌜ (length (now words) ≡ word-count) × (o .num < object-count) ⌝ }
     ensures { λ r. ⌜ now (words .exit) ≡ unlocked-words (o .num) (now (words .entry)) ⌝ }
 {
     let i = o.num;
-    words[770 + i] = 0;
-    words[802 + i] = 0;
+    put_two(words, 770 + i, 0, 802 + i, 0);
 }
 
 // Sets entry j of object o's chain.
@@ -88,8 +101,8 @@ fn set_entry(words: &mut [u64], o: Obj, j: usize, value: u64, writer: Txn)
     ensures { λ r. ⌜ now (words .exit) ≡ put-entry (o .num) j value (writer .num) (now (words .entry)) ⌝ }
 {
     let i = o.num;
-    words[898 + (8 * i + j)] = value;
-    words[1154 + (8 * i + j)] = writer.num;
+    let at = 8 * i + j;
+    put_two(words, 898 + at, value, 1154 + at, writer.num);
 }
 
 // Clears the entries of object o's chain from n on.
@@ -108,8 +121,7 @@ fn trim(words: &mut [u64], o: Obj, saved: u64, queued: u64)
     ensures { λ r. ⌜ now (words .exit) ≡ trimmed (o .num) saved queued (now (words .entry)) ⌝ }
 {
     let i = o.num;
-    words[834 + i] = saved;
-    words[866 + i] = queued;
+    put_two(words, 834 + i, saved, 866 + i, queued);
     clear(words, o, (saved + queued) as usize);
 }
 
@@ -127,7 +139,12 @@ fn unlock_fallen(words: &mut [u64], f: u64, o: Obj)
     requires { ⌜ (length (now words) ≡ word-count) × (o .num < object-count) ⌝ }
     ensures { λ r. ⌜ now (words .exit) ≡ fallen-unlocked f (o .num) (now (words .entry)) ⌝ }
 {
-    if falls(words, f, holder(words, o)) {
+    let x = holder(words, o);
+    // Nearly every lock is free: no place is searched for its holder.
+    if x.num == 0 {
+        return;
+    }
+    if sits(words, f, x) {
         unlock(words, o);
     }
 }

@@ -22,6 +22,17 @@ cut-chain i n ws =
     let s = min (word ws (saved-count-at + i)) n in
     trim i s (min (word ws (queued-count-at + i)) (n - s)) ws
 
+-- with s and q entries of each kind left, chosen one after the other
+pub cut-leaves : (i n : ℕ) (ws : List ℕ) {s q : ℕ} {vs : List ℕ} → s ≡ min (word ws (saved-count-at + i)) n
+    → q ≡ min (word ws (queued-count-at + i)) (n - s)
+    → vs ≡ trim i s q ws
+    → vs ≡ cut-chain i n ws
+unfolding cut-chain
+cut-leaves i n ws {s} {q} {vs} saved queued e =
+    e
+    ∙ ap₂ (λ (a b : ℕ). trim i a b ws) saved
+    (queued ∙ ap (λ (a : ℕ). min (word ws (queued-count-at + i)) (n - a)) saved)
+
 -- the tables with other objects
 abbrev pub with-objects : Tables → List Object → Tables
 with-objects t bs = record { next = t .next; log = t .log; live = t .live; objects = bs }

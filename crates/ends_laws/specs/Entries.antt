@@ -2,7 +2,7 @@
 -- down; and an object's chain cut to its first entries.
 -- Rests on the rules' Layout, on basics, words_laws, Loops and Objects. Assumes nothing.
 use mathlib.Core.Path.{_≡_, refl, ap, sym, _∙_}
-use mathlib.Core.Bool.{Bool, true, false, cond, _&&_, _||_}
+use mathlib.Core.Bool.{Bool, true, false, cond, _&&_, _||_, and-false}
 use mathlib.Core.Logic.{⊎-elim}
 use mathlib.Core.List.{List, _++_}
 use Prim.Native.Nat.{ℕ, zero, suc, _+_, _-_, _*_, _≤_, _<_}
@@ -19,7 +19,7 @@ use Rattle.words_laws.specs.Says.{Column, number, accessed, written, prepared, 
 use Rattle.words_laws.specs.Words.{pack-length}
 use Rattle.words_laws.specs.Writes.{View, Shows, Same, view, packed-shows, put-column, put-value, put-writer, shows-column, shows-value, shows-writer}
 use Rattle.ends_laws.specs.Loops.{loop, reaches}
-use Rattle.ends_laws.specs.Objects.{itself, another, and-false, cell-with, object-packed}
+use Rattle.ends_laws.specs.Objects.{itself, another, cell-with, object-packed}
 
 -- where entry j of object i's chain has its value and its writer
 abbrev pub value-place : ℕ → ℕ → ℕ
@@ -29,7 +29,7 @@ abbrev pub writer-place : ℕ → ℕ → ℕ
 writer-place i j = chain-writer-at + (chain-room * i + j)
 
 -- entry j of object i's chain set to a value and a writer
-unfoldable pub put-entry : ℕ → ℕ → ℕ → ℕ → List ℕ → List ℕ
+abbrev pub put-entry : ℕ → ℕ → ℕ → ℕ → List ℕ → List ℕ
 put-entry i j x y ws = set (set ws (value-place i j) x) (writer-place i j) y
 
 -- the entries from n on zero
@@ -87,7 +87,7 @@ module _ (i : ℕ) (h : i < object-count) (at F G : ℕ → ℕ) (v : View) wher
   entry-more : (m : ℕ) (ws : List ℕ) (x y : ℕ) → at m < chain-room → Shows ws (put-entries i at F G m v) → x ≡ F (at m)
       → y ≡ G (at m)
       → Shows (put-entry i (at m) x y ws) (put-entries i at F G (suc m) v)
-  unfolding put-entry some-below
+  unfolding some-below
   entry-more m ws x y g s ex ey =
       let was = put-entries i at F G m v in
       let ws′ = set ws (value-place i (at m)) x in
@@ -116,13 +116,9 @@ module _ (i : ℕ) (h : i < object-count) (at F G : ℕ → ℕ) (v : View) wher
         count = refl;
         log = λ j k. refl;
         column = λ c k l. refl;
-        value = λ k j a b. sym (nothing (eqb k i) (F j) (v .value k j));
-        writer = λ k j a b. sym (nothing (eqb k i) (G j) (v .writer k j));
+        value = λ k j a b. rw (and-false (eqb k i));
+        writer = λ k j a b. rw (and-false (eqb k i));
       })
-    where
-      nothing : (p : Bool) (x z : ℕ) → cond (p && false) x z ≡ z
-      nothing true x z = refl
-      nothing false x z = refl
 
 -- cleared entries show zero
 pub clear-shows : (i : ℕ) → i < object-count → (n : ℕ) (ws : List ℕ) (v : View) → Shows ws v

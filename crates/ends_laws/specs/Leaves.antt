@@ -3,7 +3,7 @@
 use mathlib.Core.Path.{_≡_, ap, ap₂, sym, _∙_, subst}
 use mathlib.Core.Bool.{Bool, true, false, cond}
 use mathlib.Core.List.{List}
-use Prim.Native.Nat.{ℕ, suc, _+_, _-_, _^_, _<_, _≤_}
+use Prim.Native.Nat.{ℕ, _+_, _-_, _^_, _<_, _≤_}
 use native.Mathlib.Numerals.{add-one}
 use native.Mathlib.Omega.{arith}
 use lib.Dec.{T}
@@ -19,14 +19,14 @@ use Rattle.words_laws.specs.Words.{words-again, sound-words-say, tables-again, 
 use Rattle.sound_laws.specs.Means.{Sound, means, tests}
 use Rattle.sound_laws.specs.Live.{live-at}
 use Rattle.sound_laws.specs.Abort.{Closed}
-use Rattle.ends_laws.specs.Loops.{loop}
+use Rattle.ends_laws.specs.Loops.{after, loop}
 use Rattle.ends_laws.specs.Entries.{writer-place}
-use Rattle.ends_laws.specs.Places.{add-record, record-packs}
-use Rattle.ends_laws.specs.Commit.{commit-words, commit-packs, logged}
-use Rattle.ends_laws.specs.Undo.{undo-words, undo-packs}
+use Rattle.ends_laws.specs.Places.{free-words, add-record, record-packs}
+use Rattle.ends_laws.specs.Commit.{strike, commit-words, commit-packs, logged}
+use Rattle.ends_laws.specs.Undo.{undo-object, undo-place, undo-words, undo-packs}
 use Rattle.ends_laws.specs.Crash.{crash-object, crash-words, crash-packs, queued-then, queued-few}
 use Rattle.ends_laws.specs.Settle.{settle-number, settle-object, settle-number-packed, settle-none, settle-some}
-use Rattle.ends_laws.specs.Restart.{settle-first, settle-first-sound, settle-first-words, wipe-words, used-count, used-packed, restart-packs}
+use Rattle.ends_laws.specs.Restart.{settle-first, settle-first-sound, settle-first-words, wipe, wipe-words, used-count, used-packed, restart-packs}
 
 -- how many of object i's entries a crash of the objects c drops
 abbrev pub dropped : List ℕ → ℕ → ℕ → ℕ
@@ -60,9 +60,12 @@ module _ (ws : List ℕ) (s : T (sound-words ws)) where
 
   module _ (x : ℕ) (room : length (unpack ws .log) < log-room) where
     pub commit-leaves : (p : ℕ) → T (is-live (unpack ws .live) (txn x)) → p ≡ place-of (unpack ws .live) (txn x)
-        → commit-words x p ws ≡ pack (commit (unpack ws) (txn x))
-    commit-leaves p live there =
-        from-packed (λ vs. commit-words x p vs ≡ pack (commit (unpack ws) (txn x)))
+        → {us vs rs : List ℕ} → us ≡ add-record x ws → vs ≡ loop place-count (strike p) us → rs ≡ free-words p vs
+        → rs ≡ pack (commit (unpack ws) (txn x))
+    unfolding commit-words
+    commit-leaves p live there e f g =
+        after (free-words p) (after (loop place-count (strike p)) e f) g
+        ∙ from-packed (λ vs. commit-words x p vs ≡ pack (commit (unpack ws) (txn x)))
         (commit-packs (unpack ws) ok x room p live there)
 
     -- with the record added, the dependencies are sets still
@@ -77,9 +80,13 @@ module _ (ws : List ℕ) (s : T (sound-words ws)) where
 
   -- ---- undo
 
-  pub undo-leaves : (f : ℕ) → Closed (unpack ws .live) f → undo-words f ws ≡ pack (undo (unpack ws) f)
-  undo-leaves f closed =
-      from-packed (λ vs. undo-words f vs ≡ pack (undo (unpack ws) f)) (undo-packs (unpack ws) ok f closed)
+  pub undo-leaves : (f : ℕ) → Closed (unpack ws .live) f → {us vs : List ℕ} → us ≡ loop object-count (undo-object f) ws
+      → vs ≡ loop place-count (undo-place f) us
+      → vs ≡ pack (undo (unpack ws) f)
+  unfolding undo-words
+  undo-leaves f closed e g =
+      after (loop place-count (undo-place f)) e g
+      ∙ from-packed (λ vs. undo-words f vs ≡ pack (undo (unpack ws) f)) (undo-packs (unpack ws) ok f closed)
 
   -- ---- crash
 
@@ -144,13 +151,22 @@ module _ (ws : List ℕ) (s : T (sound-words ws)) where
   pub still-sound : (n : ℕ) → n ≤ object-count → T (sound-words (pack (settle-first n (unpack ws))))
   still-sound = settle-first-words (unpack ws) ok
 
-  pub settle-next : (n : ℕ) → n ≤ object-count
-      → settle (unpack (pack (settle-first n (unpack ws)))) (obj n) ≡ settle-first (suc n) (unpack ws)
+  pub settle-next : (n : ℕ) → n ≤ object-count → {us vs : List ℕ} → us ≡ pack (settle-first n (unpack ws))
+      → vs ≡ pack (settle (unpack us) (obj n))
+      → vs ≡ pack (settle-first (n + 1) (unpack ws))
   unfolding settle-first
-  settle-next n h =
-      ap (λ (t : Tables). settle t (obj n))
+  settle-next n h e f =
+      after (λ us. pack (settle (unpack us) (obj n))) e f
+      ∙ ap (λ (t : Tables). pack (settle t (obj n)))
       (tables-again (settle-first n (unpack ws))
       (tests (settle-first n (unpack ws)) (settle-first-sound (unpack ws) ok n h)))
+      ∙ ap (λ (m : ℕ). pack (settle-first m (unpack ws))) (sym (add-one n))
 
-  pub restart-leaves : wipe-words (pack (settle-first object-count (unpack ws))) ≡ pack (restart (unpack ws))
-  restart-leaves = restart-packs (unpack ws) ok
+  pub restart-leaves : {us vs rs : List ℕ} → us ≡ pack (settle-first object-count (unpack ws))
+      → vs ≡ loop object-count wipe us
+      → rs ≡ loop place-count free-words vs
+      → rs ≡ pack (restart (unpack ws))
+  unfolding wipe-words
+  restart-leaves e f g =
+      after (loop place-count free-words) (after (loop object-count wipe) e f) g
+      ∙ restart-packs (unpack ws) ok

@@ -28,6 +28,12 @@ reaches m n = go (passes-or-fails (ltb m n))
     go (inl t) = inr (ltb→lt m n t)
     go (inr f) = let g : m < n → ⊥ = λ k. f (lt→ltb m n k) in inl (omega arith)
 
+-- ---- one step after another
+
+-- what a step leaves of the words that another left
+pub after : (g : List ℕ → List ℕ) {ws vs us : List ℕ} → vs ≡ ws → us ≡ g vs → us ≡ g ws
+after g e f = f ∙ ap g e
+
 -- ---- loops as the code writes them
 
 -- the words after n turns, of which turn i is `f i`

@@ -1,7 +1,7 @@
 -- Words of one object: what its lock, its counts and its chain's entries are after they are written, in packed tables.
 -- Rests on the rules' Layout, on basics, words_laws and Loops. Assumes nothing.
 use mathlib.Core.Path.{_≡_, refl, ap, sym, _∙_, subst}
-use mathlib.Core.Bool.{Bool, true, false, _&&_}
+use mathlib.Core.Bool.{true, false, and-false}
 use mathlib.Core.Logic.{⊎-elim}
 use mathlib.Core.List.{List}
 use Prim.Native.Nat.{ℕ, _+_, _<_}
@@ -25,10 +25,6 @@ itself i = is-true (eqb i i) (eqb-refl i)
 
 pub another : (k i : ℕ) → (k ≡ i → ⊥) → eqb k i ≡ false
 another k i d = is-false (eqb k i) (λ t. d (equal-says k i .0 t))
-
-pub and-false : (b : Bool) → (b && false) ≡ false
-and-false true = refl
-and-false false = refl
 
 -- ---- one object written anew
 
@@ -140,12 +136,11 @@ module _ (u : Tables) (n : length (u .objects) ≡ object-count) (i : ℕ) (h : 
 -- ---- the lock
 
 -- object i's lock free
-unfoldable pub unlock : ℕ → List ℕ → List ℕ
+abbrev pub unlock : ℕ → List ℕ → List ℕ
 unlock i ws = set (set ws (holder-at + i) 0) (working-at + i) 0
 
 pub unlock-packs : (u : Tables) → length (u .objects) ≡ object-count → (i : ℕ) → i < object-count
     → unlock i (pack u) ≡ pack (with-object u (obj i) (unlocked (object u (obj i))))
-unfolding unlock
 unlock-packs u n i h =
     let o = itself i in
     object-packed u n i h b (set (set (pack u) (holder-at + i) 0) (working-at + i) 0) v

@@ -1,6 +1,7 @@
 -- Words of one place and of the log's end: a place freed, its dependencies set, a record added, in packed tables.
 -- Rests on the rules' Layout, on basics, words_laws, Loops and Objects. Assumes nothing.
 use mathlib.Core.Path.{_≡_, refl, ap, sym, _∙_, subst}
+use mathlib.Core.Bool.{and-false}
 use mathlib.Core.Logic.{⊎-elim}
 use mathlib.Core.List.{List, [], _∷_, _++_}
 use Prim.Native.Nat.{ℕ, _+_, _<_}
@@ -14,7 +15,7 @@ use Rattle.words_laws.specs.Says.{Column, number, accessed, written, prepared, 
 use Rattle.words_laws.specs.Words.{pack-length}
 use Rattle.words_laws.specs.Writes.{View, Shows, view, packed-shows, shows-packed, put-column, put-log, put-count, shows-column, shows-log, shows-count}
 use Rattle.ends_laws.specs.Loops.{reaches}
-use Rattle.ends_laws.specs.Objects.{itself, another, and-false}
+use Rattle.ends_laws.specs.Objects.{itself, another}
 
 -- the tables with other places
 abbrev pub with-places : Tables → List Live → Tables

@@ -2,7 +2,7 @@
 -- writer is not live, so the entries that leave are the saved ones before the first live one.
 -- Rests on the rules' Layout, Falls and Steps, on basics, words_laws, sound_laws, and on Loops to Scans. Assumes nothing.
 use mathlib.Core.Path.{_≡_, refl, ap, ap₂, sym, _∙_}
-use mathlib.Core.Bool.{Bool, cond}
+use mathlib.Core.Bool.{Bool, cond, and-false}
 use mathlib.Core.Logic.{⊎-elim}
 use mathlib.Core.List.{List, [], _∷_, _++_, map, append-assoc}
 use Prim.Native.Nat.{ℕ, suc, _+_, _-_, _<_, _≤_, min}
@@ -28,7 +28,7 @@ use Rattle.sound_laws.specs.Live.{live-at}
 use Rattle.sound_laws.specs.Known.{logged-not-live}
 use Rattle.ends_laws.specs.Loops.{reaches}
 use Rattle.ends_laws.specs.Fronts.{keep-leading, kept-parts}
-use Rattle.ends_laws.specs.Objects.{itself, another, and-false, cell-with, object-packed}
+use Rattle.ends_laws.specs.Objects.{itself, another, cell-with, object-packed}
 use Rattle.ends_laws.specs.Entries.{value-place, writer-place, clear, slide, among, put-entries, clear-shows, slide-shows, among-from, not-among-from, among-below}
 use Rattle.ends_laws.specs.Cuts.{with-objects}
 use Rattle.ends_laws.specs.Scans.{falls-in, first-fall, first-fall-packed}

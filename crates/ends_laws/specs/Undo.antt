@@ -32,6 +32,16 @@ use Rattle.ends_laws.specs.Cuts.{cut-chain, with-objects, cut-packs}
 unfoldable pub unlock-fallen : ℕ → ℕ → List ℕ → List ℕ
 unlock-fallen f i ws = cond (falls-in ws f (word ws (holder-at + i))) (unlock i ws) ws
 
+-- by whether the holder falls
+module _ (f i : ℕ) (ws : List ℕ) (x : ℕ) (there : x ≡ word ws (holder-at + i)) where
+  pub lock-freed : true ≡ falls-in ws f x → {vs : List ℕ} → vs ≡ unlock i ws → vs ≡ unlock-fallen f i ws
+  unfolding unlock-fallen
+  lock-freed t e = e ∙ sym (rw (← there, ← t))
+
+  pub lock-kept : false ≡ falls-in ws f x → ws ≡ unlock-fallen f i ws
+  unfolding unlock-fallen
+  lock-kept t = sym (rw (← there, ← t))
+
 -- object i's chain is empty
 unfoldable pub no-entries : List ℕ → ℕ → Bool
 no-entries ws i = eqb (word ws (saved-count-at + i)) 0 && eqb (word ws (queued-count-at + i)) 0
@@ -49,9 +59,9 @@ module _ (f i : ℕ) (ws : List ℕ) where
   chain-empty e = rw (← e)
 
   module _ (some : false ≡ no-entries ws i) (k : ℕ) (first : k ≡ first-fall ws f i) where
-    pub chain-cut : k < chain-room → (vs : List ℕ) → vs ≡ cut-chain i k ws → vs ≡ undo-chain f i ws
+    pub chain-cut : k < chain-room → {vs : List ℕ} → vs ≡ cut-chain i k ws → vs ≡ undo-chain f i ws
     unfolding undo-chain
-    chain-cut h vs e = e ∙ sym (rw (← some, ← first, lt-ltb k chain-room h))
+    chain-cut h e = e ∙ sym (rw (← some, ← first, lt-ltb k chain-room h))
 
     pub chain-whole : chain-room ≤ k → ws ≡ undo-chain f i ws
     unfolding undo-chain

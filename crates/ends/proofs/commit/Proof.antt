@@ -2,15 +2,11 @@
 -- is the step.
 -- Assumes nothing.
 use mathlib.Core.List.{List}
-use mathlib.Core.Path.{subst, ap, sym, _∙_}
+use mathlib.Core.Path.{subst, sym, _∙_}
 use Prim.Native.Nat.{ℕ, _+_, _<_, _^_}
 use native.Mathlib.Omega.{arith}
 use Rattle.rules.specs.Sets.{width}
-use Rattle.rules.specs.Tables.{place-count}
 use Rattle.rules.specs.Layout.{word, depends-at}
-use Rattle.ends_laws.specs.Loops.{loop}
-use Rattle.ends_laws.specs.Places.{free-words}
-use Rattle.ends_laws.specs.Commit.{strike, commit-words}
 use Rattle.ends_laws.specs.Leaves.{size, log-count-is, seat-below, commit-leaves, depends-fit}
 use Rattle.ends.proofs.commit.Statement.{statement}
 use Rattle.ends.proofs.commit.Tie as tie
@@ -31,7 +27,7 @@ strike-all-requires c κs =
       add-record-call .kept .0 ∙ size ws (pre .0),
       seat-below ws (pre .0) x (start .args .p) (pre .1) (pre .2),
       λ q h. subst (λ (vs : List ℕ). word vs (depends-at + q) < 2 ^ width) (sym (add-record-call .ensures))
-          (depends-fit ws (pre .0) x (pre .3) q h),
+          (depends-fit ws (pre .0) _ (pre .3) q h),
     )
 
 free-place-requires : tie.Need-free-place-requires
@@ -53,17 +49,14 @@ same-length c =
     c .before .before .free-place .kept .0 ∙ strike-all-call .kept .0 ∙ add-record-call .kept .0
 
 returns : tie.Need-returns
-unfolding commit-words
 returns c =
     let late = c .before .before .before .before .before .before .before .before in
     let start = late .before .before .before .before .before in
     let strike-all-call = c .before .before .before .before .before .before .strike-all in
     let add-record-call = late .before .before .add-record in
-    let p = start .args .p in
     let pre = start .pre in
-    c .before .before .free-place .ensures
-    ∙ ap (free-words p) (strike-all-call .ensures ∙ ap (loop place-count (strike p)) (add-record-call .ensures))
-    ∙ commit-leaves (start .args .words .now) (pre .0) (start .args .x .num) (pre .3) p (pre .1) (pre .2)
+    commit-leaves (start .args .words .now) (pre .0) (start .args .x .num) (pre .3) (start .args .p) (pre .1) (pre .2)
+    (add-record-call .ensures) (strike-all-call .ensures) (c .before .before .free-place .ensures)
 
 pub commit-spec : {M : Type 1} → statement M
 commit-spec =

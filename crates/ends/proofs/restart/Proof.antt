@@ -2,12 +2,8 @@
 -- the step.
 -- Assumes nothing.
 use mathlib.Core.List.{List}
-use mathlib.Core.Path.{ap, _∙_}
+use mathlib.Core.Path.{_∙_}
 use Prim.Native.Nat.{ℕ}
-use Rattle.rules.specs.Tables.{object-count, place-count}
-use Rattle.ends_laws.specs.Loops.{loop}
-use Rattle.ends_laws.specs.Places.{free-words}
-use Rattle.ends_laws.specs.Restart.{wipe, wipe-words}
 use Rattle.ends_laws.specs.Leaves.{size, used-is, restart-leaves}
 use Rattle.ends.proofs.restart.Statement.{statement}
 use Rattle.ends.proofs.restart.Tie as tie
@@ -43,7 +39,6 @@ same-length c =
     c .before .before .free-all .kept .0 ∙ wipe-objects-call .kept .0 ∙ settle-all-call .kept .0
 
 returns : tie.Need-returns
-unfolding wipe-words
 returns c =
     let late = c .before .before .before .before .before .before .before .before in
     let start = late .before .before .before .before .before .before .before in
@@ -52,10 +47,8 @@ returns c =
     let settle-all-call = late .before .before .settle-all in
     let ws : List ℕ = start .args .words .now in (
       count-used-call .ensures ∙ used-is ws (start .pre),
-      c .before .before .free-all .ensures
-          ∙ ap (loop place-count free-words)
-          (wipe-objects-call .ensures ∙ ap (loop object-count wipe) (settle-all-call .ensures))
-          ∙ restart-leaves ws (start .pre),
+      restart-leaves ws (start .pre) (settle-all-call .ensures) (wipe-objects-call .ensures)
+          (c .before .before .free-all .ensures),
     )
 
 pub restart-spec : {M : Type 1} → statement M

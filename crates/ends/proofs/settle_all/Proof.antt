@@ -5,11 +5,9 @@ use mathlib.Core.List.{List}
 use mathlib.Core.Path.{subst, _≡_, ap, sym, _∙_}
 use Prim.Native.Nat.{ℕ, _-_, _≤_}
 use native.Mathlib.Omega.{arith}
-use native.Mathlib.Numerals.{add-one}
 use lib.Dec.{T}
 use lib.ListN.{length}
-use Rattle.rules.specs.Tables.{obj, object-count}
-use Rattle.rules.specs.Steps.{settle}
+use Rattle.rules.specs.Tables.{object-count}
 use Rattle.rules.specs.Layout.{sound-words, pack, unpack}
 use Rattle.words_laws.specs.Words.{words-again, pack-length}
 use Rattle.ends_laws.specs.Restart.{settle-first}
@@ -47,13 +45,10 @@ loop-less c = omega arith
 loop-again : tie.Need-loop-again Inv-loop μ-loop
 loop-again c =
     let turn = c .before .before .before .before .before .loop in
-    let start = c .before .before .before .before .before .before .before in
-    let ws : List ℕ = start .args .words .now in (
+    let start = c .before .before .before .before .before .before .before in (
       omega arith,
-      c .before .before .settle .ensures .1
-          ∙ ap (λ (vs : List ℕ). pack (settle (unpack vs) (obj (turn .i)))) (turn .inv .1)
-          ∙ ap pack (settle-next ws (start .pre) (turn .i) (omega arith))
-          ∙ ap (λ (n : ℕ). pack (settle-first n (unpack ws))) (sym (add-one (turn .i))),
+      settle-next (start .args .words .now) (start .pre) (turn .i) (omega arith) (turn .inv .1)
+          (c .before .before .settle .ensures .1),
     )
 
 same-length : tie.Need-same-length Inv-loop μ-loop

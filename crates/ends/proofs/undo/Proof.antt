@@ -1,10 +1,7 @@
 -- `ends::undo` meets its contract. It is what its two callees leave, one after the other, which `undo-leaves` says is
 -- the step.
 -- Assumes nothing.
-use mathlib.Core.Path.{ap, _∙_}
-use Rattle.rules.specs.Tables.{place-count}
-use Rattle.ends_laws.specs.Loops.{loop}
-use Rattle.ends_laws.specs.Undo.{undo-place, undo-words}
+use mathlib.Core.Path.{_∙_}
 use Rattle.ends_laws.specs.Leaves.{size, undo-leaves}
 use Rattle.ends.proofs.undo.Statement.{statement}
 use Rattle.ends.proofs.undo.Tie as tie
@@ -25,14 +22,11 @@ same-length c =
     c .before .before .undo-places .kept .0 ∙ undo-objects-call .kept .0
 
 returns : tie.Need-returns
-unfolding undo-words
 returns c =
     let start = c .before .before .before .before .before .before .before .before .before in
     let undo-objects-call = c .before .before .before .before .before .before .undo-objects in
-    let f = start .args .f in
-    c .before .before .undo-places .ensures
-    ∙ ap (loop place-count (undo-place f)) (undo-objects-call .ensures)
-    ∙ undo-leaves (start .args .words .now) (start .pre .0) f (start .pre .1)
+    undo-leaves (start .args .words .now) (start .pre .0) (start .args .f) (start .pre .1) (undo-objects-call .ensures)
+    (c .before .before .undo-places .ensures)
 
 pub undo-spec : {M : Type 1} → statement M
 undo-spec = tie.close (tie.spec undo-objects-requires undo-places-requires same-length returns)

@@ -35,8 +35,8 @@ loop-again c =
     let turn = c .before .loop in (
       omega arith,
       omega arith,
-      length-set (turn .words) (turn .k) 0 ∙ turn .inv .2,
-      one-first-more (turn .words) (turn .k) (turn .k + 1) 0 (omega arith) refl (omega arith) (omega arith)
+      simp length-set (turn .inv .2),
+      one-first-more (turn .words) (turn .k) (turn .k + 1) _ (omega arith) refl (omega arith) (omega arith)
           (turn .inv .3),
     )
 

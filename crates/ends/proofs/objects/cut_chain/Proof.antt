@@ -1,12 +1,7 @@
 -- `ends::objects::cut_chain` meets its contract. The counts are those of the definition.
 -- Assumes nothing.
-use mathlib.Core.List.{List}
-use mathlib.Core.Path.{_≡_, ap, ap₂, _∙_}
-use Prim.Native.Nat.{ℕ, _+_, _-_, min}
 use borrow.Author.Needs.{needs}
-use Rattle.rules.specs.Layout.{word, saved-count-at, queued-count-at}
-use Rattle.ends_laws.specs.Entries.{trim}
-use Rattle.ends_laws.specs.Cuts.{cut-chain}
+use Rattle.ends_laws.specs.Cuts.{cut-leaves}
 use Rattle.ends.proofs.objects.cut_chain.Statement.{statement}
 use Rattle.ends.proofs.objects.cut_chain.Tie as tie
 
@@ -44,19 +39,11 @@ same-length : tie.Need-same-length
 same-length c = search needs
 
 returns : tie.Need-returns
-unfolding cut-chain
 returns c =
     let late = c .before .before .before .before in
-    let start = late .before .before .before .before .before in
-    let ws : List ℕ = start .args .words .now in
-    let i = start .args .o .num in
-    let n = start .args .n in
-    let saved : late .before .before .lower .result ≡ min (word ws (saved-count-at + i)) n =
-    late .before .before .lower .ensures in
-    let queued : late .lower2 .result
-    ≡ min (word ws (queued-count-at + i)) (n - min (word ws (saved-count-at + i)) n) =
-    late .lower2 .ensures ∙ ap (λ (a : ℕ). min (word ws (queued-count-at + i)) (n - a)) saved in
-    c .before .before .trim .ensures ∙ ap₂ (λ (a b : ℕ). trim i a b ws) saved queued
+    let a = late .before .before .before .before .before .args in
+    cut-leaves (a .o .num) (a .n) (a .words .now) (late .before .before .lower .ensures) (late .lower2 .ensures)
+    (c .before .before .trim .ensures)
 
 pub cut-chain-spec : {M : Type 1} → statement M
 cut-chain-spec =

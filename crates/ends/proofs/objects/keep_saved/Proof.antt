@@ -1,7 +1,8 @@
 -- `ends::objects::keep_saved` meets its contract. It is what its two callees leave, one after the other.
 -- Assumes nothing.
-use mathlib.Core.Path.{ap, _∙_}
+use mathlib.Core.Path.{_∙_}
 use borrow.Author.Needs.{needs}
+use Rattle.ends_laws.specs.Loops.{after}
 use Rattle.ends_laws.specs.Entries.{trim}
 use Rattle.ends_laws.specs.Cuts.{keep-saved}
 use Rattle.ends.proofs.objects.keep_saved.Statement.{statement}
@@ -21,9 +22,9 @@ same-length c =
 returns : tie.Need-returns
 unfolding keep-saved
 returns c =
-    let start = c .before .before .before .before .before .before .before .before .before in
+    let a = c .before .before .before .before .before .before .before .before .before .args in
     let unlock-call = c .before .before .before .before .before .before .unlock in
-    c .before .before .trim .ensures ∙ ap (trim (start .args .o .num) (start .args .n) 0) (unlock-call .ensures)
+    after (trim (a .o .num) (a .n) 0) (unlock-call .ensures) (c .before .before .trim .ensures)
 
 pub keep-saved-spec : {M : Type 1} → statement M
 keep-saved-spec = tie.close (tie.spec unlock-requires trim-requires same-length returns)

@@ -1,9 +1,10 @@
 -- `ends::objects::settle_object` meets its contract. It is what its three callees leave, one after another.
 -- Assumes nothing.
-use mathlib.Core.Path.{ap, _∙_}
+use mathlib.Core.Path.{_∙_}
 use Prim.Native.Nat.{_-_}
 use native.Mathlib.Omega.{arith}
 use Rattle.rules.specs.Tables.{chain-room}
+use Rattle.ends_laws.specs.Loops.{after}
 use Rattle.ends_laws.specs.Entries.{clear, slide}
 use Rattle.ends_laws.specs.Settle.{settle-object}
 use Rattle.ends.proofs.objects.settle_object.Statement.{statement}
@@ -43,8 +44,8 @@ returns c =
     let put-stable-call = late .before .before .put-stable in
     let o = start .args .o .num in
     let k = start .args .k in
-    c .before .before .clear .ensures
-    ∙ ap (clear o (chain-room - k)) (slide-call .ensures ∙ ap (slide o k) (put-stable-call .ensures))
+    after (clear o (chain-room - k)) (after (slide o k) (put-stable-call .ensures) (slide-call .ensures))
+    (c .before .before .clear .ensures)
 
 pub settle-object-spec : {M : Type 1} → statement M
 settle-object-spec =

@@ -1,53 +1,44 @@
--- `ends::objects::trim` meets its contract. `clear` starts from the words with both counts set.
+-- `ends::objects::trim` meets its contract. It is what its two callees leave, one after the other.
 -- Assumes nothing.
-use mathlib.Core.Path.{_∙_}
-use native.Mathlib.Omega.{arith}
-use lib.ListN.{length-set}
-use Rattle.ends_laws.specs.Entries.{trim}
+use Prim.Native.Nat.{_+_}
+use borrow.Author.Needs.{needs}
+use Rattle.ends_laws.specs.Loops.{after}
+use Rattle.ends_laws.specs.Entries.{clear, trim}
 use Rattle.ends.proofs.objects.trim.Statement.{statement}
 use Rattle.ends.proofs.objects.trim.Tie as tie
 
-add-words : tie.Need-add-words
-add-words c = omega arith
+add-put-two : tie.Need-add-put-two
+add-put-two c = search needs
 
-mul-words : tie.Need-mul-words
-mul-words c = omega arith
+add-put-two-2 : tie.Need-add-put-two-2
+add-put-two-2 c = search needs
 
-slice-write-words : tie.Need-slice-write-words
-slice-write-words c = omega arith
-
-add-words-2 : tie.Need-add-words-2
-add-words-2 c = omega arith
-
-mul-words-2 : tie.Need-mul-words-2
-mul-words-2 c = omega arith
-
-slice-write-words-2 : tie.Need-slice-write-words-2
-slice-write-words-2 c = simp length-set (omega arith)
+put-two-requires : tie.Need-put-two-requires
+put-two-requires c κs = search needs
 
 add-clear : tie.Need-add-clear
-add-clear c = omega arith
+add-clear c = search needs
 
 clear-requires : tie.Need-clear-requires
-clear-requires c κs = simp length-set (omega arith)
+clear-requires c κs = search needs
 
 same-length : tie.Need-same-length
-same-length c = c .before .before .clear .kept .0 ∙ simp length-set
+same-length c = search needs
 
 returns : tie.Need-returns
 unfolding trim
-returns c = c .before .before .clear .ensures
+returns c =
+    let put-two-call = c .before .before .before .before .before .before .put-two in
+    let a = c .before .before .before .before .before .before .before .before .before .args in
+    after (clear (a .o .num) (a .saved + a .queued)) (put-two-call .ensures) (c .before .before .clear .ensures)
 
 pub trim-spec : {M : Type 1} → statement M
 trim-spec =
     tie.close
     (tie.spec
-    add-words
-    mul-words
-    slice-write-words
-    add-words-2
-    mul-words-2
-    slice-write-words-2
+    add-put-two
+    add-put-two-2
+    put-two-requires
     add-clear
     clear-requires
     same-length

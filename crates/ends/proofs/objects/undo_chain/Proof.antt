@@ -2,6 +2,7 @@
 -- Assumes nothing.
 use mathlib.Core.Bool.{false}
 use mathlib.Core.Path.{_≡_, sym, _∙_}
+use native.Mathlib.Omega.{arith}
 use borrow.Author.Needs.{needs}
 use Rattle.ends_laws.specs.Undo.{no-entries, chain-empty, chain-cut, chain-whole}
 use Rattle.ends.proofs.objects.undo_chain.Statement.{statement}
@@ -40,12 +41,10 @@ same-length-2 c = search needs
 
 returns-2 : tie.Need-returns-2
 returns-2 c =
-    let call = c .before .before .cut-chain in
-    let tested = c .before .before .before .before in
-    let asked = tested .before in
+    let asked = c .before .before .before .before .before in
     let a = start asked .args in
     chain-cut (a .f) (a .o .num) (a .words .now) (some asked) (asked .first-fall .result) (asked .first-fall .ensures)
-    (tested .if2 .taken) (call .last .0) (call .ensures)
+    (omega arith) (c .before .before .cut-chain .ensures)
 
 same-length-3 : tie.Need-same-length-3
 same-length-3 c = search needs
@@ -55,7 +54,7 @@ returns-3 c =
     let asked = c .before in
     let a = start asked .args in
     chain-whole (a .f) (a .o .num) (a .words .now) (some asked) (asked .first-fall .result) (asked .first-fall .ensures)
-    (c .if2 .left)
+    (omega arith)
 
 pub undo-chain-spec : {M : Type 1} → statement M
 undo-chain-spec =

@@ -1,7 +1,7 @@
 -- `ends::objects::undo_object` meets its contract. It is what its two callees leave, one after the other.
 -- Assumes nothing.
-use mathlib.Core.Path.{ap, _∙_}
 use borrow.Author.Needs.{needs}
+use Rattle.ends_laws.specs.Loops.{after}
 use Rattle.ends_laws.specs.Undo.{unlock-fallen, undo-object}
 use Rattle.ends.proofs.objects.undo_object.Statement.{statement}
 use Rattle.ends.proofs.objects.undo_object.Tie as tie
@@ -18,9 +18,9 @@ same-length c = search needs
 returns : tie.Need-returns
 unfolding undo-object
 returns c =
-    let start = c .before .before .before .before .before .before .before .before .before in
+    let a = c .before .before .before .before .before .before .before .before .before .args in
     let undo-chain-call = c .before .before .before .before .before .before .undo-chain in
-    c .before .before .unlock-fallen .ensures ∙ ap (unlock-fallen (start .args .f) (start .args .o .num)) (undo-chain-call .ensures)
+    after (unlock-fallen (a .f) (a .o .num)) (undo-chain-call .ensures) (c .before .before .unlock-fallen .ensures)
 
 pub undo-object-spec : {M : Type 1} → statement M
 undo-object-spec =
