@@ -1,6 +1,6 @@
 -- The words that settle writes are what the rules' settle packs to. In sound tables an entry is logged exactly when its
 -- writer is not live, so the entries that leave are the saved ones before the first live one.
--- Rests on the rules' Layout, Falls and Steps, on basics, words_laws, sound_laws, and on Loops to Scans. Assumes nothing.
+-- Rests on the rules' Layout, Falls and Steps, on basics, words_laws, sound_laws, and on Loops to Cuts. Assumes nothing.
 use mathlib.Core.Path.{_≡_, refl, ap, ap₂, sym, _∙_}
 use mathlib.Core.Bool.{Bool, cond, and-false}
 use mathlib.Core.Logic.{⊎-elim}
