@@ -1,13 +1,12 @@
 -- The words that crash writes are what the rules' crash packs to.
 -- Rests on the rules' Layout and Steps, on words_laws, sound_laws, and on Loops to Cuts. Assumes nothing.
-use mathlib.Core.Path.{_≡_, refl, ap, sym, _∙_}
+use mathlib.Core.Path.{_≡_, refl, ap, _∙_}
 use mathlib.Core.Bool.{Bool, true, false, cond}
 use mathlib.Core.List.{List}
 use Prim.Native.Nat.{ℕ, _+_, _<_, _≤_}
 use native.Mathlib.Nat.{le-refl}
 use native.Mathlib.Omega.{arith}
 use lib.ListN.{length, getD, set, length-append}
-use lib.Seq.{set-getD}
 use Rattle.rules.specs.Sets.{has}
 use Rattle.rules.specs.Tables.{Object, Tables, obj, object-count, chain-room, fresh-object, object}
 use Rattle.rules.specs.Steps.{crashed, crash}
@@ -15,7 +14,7 @@ use Rattle.rules.specs.Layout.{saved-count-at, queued-count-at, pack, word}
 use Rattle.words_laws.specs.Says.{saved-count, queued-count, pack-says}
 use Rattle.sound_laws.specs.Means.{Sound}
 use Rattle.ends_laws.specs.Loops.{loop, loop-row, loop-turns, turns, turns-after}
-use Rattle.ends_laws.specs.Cuts.{keep-saved, with-objects, keep-saved-packs}
+use Rattle.ends_laws.specs.Cuts.{keep-saved, with-objects, object-again, keep-saved-packs}
 
 -- object i with its lock free and its saved entries alone, if it is one of the set
 unfoldable pub crash-object : ℕ → ℕ → List ℕ → List ℕ
@@ -50,8 +49,7 @@ module _ (t : Tables) (s : Sound t) (c : ℕ) where
           (pack-says u .column saved-count i h ∙ ap (λ (o : Object). length (o .saved)) e)
           ∙ keep-saved-packs u (n ∙ s .objects-count) i h b e (b .saved) (b .queued) refl
       go false =
-          ap (λ (l : List Object). pack (with-objects t l)) (sym (set-getD bs i fresh-object))
-          ∙ ap (λ (o : Object). pack (with-objects t (set bs i o))) e
+          object-again u i ∙ ap (λ (o : Object). pack (with-objects t (set bs i o))) e
 
   pub crash-packs : crash-words c (pack t) ≡ pack (crash t c)
   unfolding crash-words crash

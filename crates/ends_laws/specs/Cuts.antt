@@ -4,8 +4,8 @@ use mathlib.Core.Path.{_≡_, ap, ap₂, sym, _∙_}
 use mathlib.Core.List.{List, [], _++_, append-nil}
 use Prim.Native.Nat.{ℕ, _+_, _-_, _<_, min}
 use lib.ListN.{length, length-set}
-use lib.Seq.{set-set}
-use Rattle.rules.specs.Tables.{Entry, Object, Tables, obj, object-count, object, with-object, chain}
+use lib.Seq.{set-getD, set-set}
+use Rattle.rules.specs.Tables.{Entry, Object, Tables, obj, object-count, fresh-object, object, with-object, chain}
 use Rattle.rules.specs.Steps.{unlocked, chained}
 use Rattle.rules.specs.Layout.{saved-count-at, queued-count-at, pack, word}
 use Rattle.words_laws.specs.Says.{saved-count, queued-count, pack-says}
@@ -22,7 +22,7 @@ cut-chain i n ws =
     let s = min (word ws (saved-count-at + i)) n in
     trim i s (min (word ws (queued-count-at + i)) (n - s)) ws
 
--- with s and q entries of each kind left, chosen one after the other
+-- the same by the counts of the entries left, the saved ones first
 pub cut-leaves : (i n : ℕ) (ws : List ℕ) {s q : ℕ} {vs : List ℕ} → s ≡ min (word ws (saved-count-at + i)) n
     → q ≡ min (word ws (queued-count-at + i)) (n - s)
     → vs ≡ trim i s q ws
@@ -36,6 +36,10 @@ cut-leaves i n ws {s} {q} {vs} saved queued e =
 -- the tables with other objects
 abbrev pub with-objects : Tables → List Object → Tables
 with-objects t bs = record { next = t .next; log = t .log; live = t .live; objects = bs }
+
+-- an object written as it is changes nothing
+pub object-again : (u : Tables) (i : ℕ) → pack u ≡ pack (with-object u (obj i) (object u (obj i)))
+object-again u i = ap (λ (bs : List Object). pack (with-objects u bs)) (sym (set-getD (u .objects) i fresh-object))
 
 module _ (u : Tables) (size : length (u .objects) ≡ object-count) (i : ℕ) (h : i < object-count) where
   pub keep-saved-packs : (b : Object) → object u (obj i) ≡ b → (s rest : List Entry) → chain b ≡ s ++ rest

@@ -1,6 +1,6 @@
 -- The words that settle writes are what the rules' settle packs to. In sound tables an entry is logged exactly when its
 -- writer is not live, so the entries that leave are the saved ones before the first live one.
--- Rests on the rules' Layout, Falls and Steps, on basics, words_laws, sound_laws, and on Loops to Scans. Assumes nothing.
+-- Rests on the rules' Layout, Falls and Steps, on basics, words_laws, sound_laws, and on Loops to Cuts. Assumes nothing.
 use mathlib.Core.Path.{_≡_, refl, ap, ap₂, sym, _∙_}
 use mathlib.Core.Bool.{Bool, cond, and-false}
 use mathlib.Core.Logic.{⊎-elim}
@@ -10,10 +10,10 @@ use native.Mathlib.Nat.{not-suc-le-zero}
 use native.Mathlib.Omega.{arith}
 use lib.Dec.{T}
 use lib.ListN.{length, getD, set, length-append, List·getD-append, List·getD-eq-default}
-use lib.Seq.{getD-append-add, set-getD}
+use lib.Seq.{getD-append-add}
 use Rattle.rules.specs.Tests.{every, lowest, leading, after-leading, last-or}
 use Rattle.rules.specs.Sets.{has}
-use Rattle.rules.specs.Tables.{Txn, Version, Entry, Object, Tables, txn, obj, object-count, place-count, chain-room, fresh-object, object, with-object, place-of, is-live, log-number, chain}
+use Rattle.rules.specs.Tables.{Txn, Version, Entry, Object, Tables, txn, obj, object-count, place-count, chain-room, object, with-object, place-of, is-live, log-number, chain}
 use Rattle.rules.specs.Falls.{falls}
 use Rattle.rules.specs.Steps.{version-of, entry-logged, settled, settle, settle-count}
 use Rattle.rules.specs.Layout.{stable-value-at, stable-writer-at, stable-number-at, saved-count-at, no-entry, pack, word}
@@ -30,7 +30,7 @@ use Rattle.ends_laws.specs.Loops.{reaches}
 use Rattle.ends_laws.specs.Fronts.{keep-leading, kept-parts}
 use Rattle.ends_laws.specs.Objects.{itself, another, cell-with, object-packed}
 use Rattle.ends_laws.specs.Entries.{value-place, writer-place, clear, slide, among, put-entries, clear-shows, slide-shows, among-from, not-among-from, among-below}
-use Rattle.ends_laws.specs.Cuts.{with-objects}
+use Rattle.ends_laws.specs.Cuts.{object-again}
 use Rattle.ends_laws.specs.Scans.{falls-in, first-fall, first-fall-packed}
 
 -- the set of all places
@@ -163,8 +163,7 @@ module _ (t : Tables) (s : Sound t) (o : ℕ) (h : o < object-count) where
         saved = saved n;
         queued = b .queued;
       } in
-      ap (λ (bs : List Object). pack (with-objects t bs)) (sym (set-getD (t .objects) o fresh-object))
-      ∙ ap (λ (c : Object). pack (with-object t (obj o) c)) (sym same)
+      object-again t o ∙ ap (λ (c : Object). pack (with-object t (obj o) c)) (sym same)
     where
       empty : (es : List Entry) → length es ≡ 0 → es ≡ []
       empty [] e = refl

@@ -26,7 +26,7 @@ use Rattle.ends_laws.specs.Fronts.{PassFirst, keep-same, kept-parts}
 use Rattle.ends_laws.specs.Objects.{object-there, unlock, unlock-packs}
 use Rattle.ends_laws.specs.Places.{with-places, free-words, free-packs}
 use Rattle.ends_laws.specs.Scans.{falls-in, first-fall, falls-packed, first-fall-packed}
-use Rattle.ends_laws.specs.Cuts.{cut-chain, with-objects, cut-packs}
+use Rattle.ends_laws.specs.Cuts.{cut-chain, with-objects, object-again, cut-packs}
 
 -- object i's lock free if one of those at the places f holds it
 unfoldable pub unlock-fallen : ℕ → ℕ → List ℕ → List ℕ
@@ -97,7 +97,7 @@ lock-packs u size f i h =
     go : (free : Bool) → cond free (unlock i (pack u)) (pack u)
         ≡ pack (with-object u (obj i) (cond free (unlocked (object u (obj i))) (object u (obj i))))
     go true = unlock-packs u size i h
-    go false = ap (λ (bs : List Object). pack (with-objects u bs)) (sym (set-getD (u .objects) i fresh-object))
+    go false = object-again u i
 
 module _ (u : Tables) (size : length (u .objects) ≡ object-count) (f i : ℕ) (h : i < object-count) where
   abbrev b : Object
@@ -148,7 +148,7 @@ module _ (u : Tables) (size : length (u .objects) ≡ object-count) (f i : ℕ) 
         -- where no entry falls the tables are as they were
         same : length (b .saved) ≤ length saved → length (b .queued) ≤ length queued → ws ≡ pack now
         same m l =
-            ap (λ (bs : List Object). pack (with-objects u bs)) (sym (set-getD (u .objects) i fresh-object))
+            object-again u i
             ∙ ap₂ (λ (s q : List Entry). pack (with-object u (obj i) (chained b s q)))
             (sym (keep-same stays (b .saved) m)) (sym (keep-same stays (b .queued) l))
 
