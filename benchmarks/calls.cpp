@@ -58,7 +58,7 @@ Call call(int kind, std::uint32_t txn, int object, std::uint64_t value) {
 
 // The calls of a booking of one tube.
 std::vector<Call> booking(std::uint32_t txn, int object) {
-    return {call(1, 0, 0, 0),      call(2, txn, object, 0), call(3, txn, object, 100 + txn),
+    return {call(1, 0, 0, 0),        call(2, txn, object, 0), call(3, txn, object, 100 + txn),
             call(4, txn, object, 0), call(5, 0, object, 0),   call(6, txn, 0, 0)};
 }
 
@@ -125,37 +125,77 @@ void by_length(Pair& pair) {
     }
 }
 
-// 250 bookings from fresh tables, eight or fewer on each tube: through mv_run, and call by call.
-void bookings(Pair& pair) {
-    constexpr std::uint32_t count = 250;
-    std::vector<Call> calls;
-    std::string text;
-    for (std::uint32_t txn = 1; txn <= count; ++txn)
-        for (const Call& c : booking(txn, static_cast<int>(txn % 32))) {
-            calls.push_back(c);
-            text += line_of(c);
+// 256 bookings from fresh tables, of one tube after the other. Once all 32 tubes have had one, a host settles them all in one
+// run of lines, which counts here too: chains stay short.
+class Bookings {
+public:
+    static constexpr std::uint32_t kCount = 256;
+
+    Bookings() {
+        for (std::uint32_t txn = 1; txn <= kCount; ++txn)
+            for (const Call& c : booking(txn, tube(txn))) {
+                calls.push_back(c);
+                all_lines += line_of(c);
+                if (c.kind == 6 && txn % 32 == 0) all_lines += settles();
+            }
+    }
+
+    // The six calls of each booking one by one, and `settle_all` after every 32.
+    template <class One, class SettleAll>
+    void call_by_call(One one, SettleAll settle_all) const {
+        for (std::size_t i = 0; i < calls.size(); ++i) {
+            one(calls[i]);
+            if ((i + 1) % (6 * 32) == 0) settle_all();
         }
+    }
+
+    static std::string settles() {
+        std::string lines;
+        for (int object = 0; object < 32; ++object) lines += line_of(call(8, 0, object, 0));
+        return lines;
+    }
+
+    std::vector<Call> calls;
+    std::string all_lines;
+
+private:
+    static int tube(std::uint32_t txn) { return static_cast<int>(txn % 32); }
+};
+
+void run_lines(Pair& pair, const std::string& text, std::vector<std::uint8_t>& room) {
+    const mv_answer a = mv_run(pair.ours.data(), pair.ours.size(), reinterpret_cast<const std::uint8_t*>(text.data()), text.size(),
+                               room.data(), room.size());
+    if (a.number != MV_DONE || a.value != text.size() / 29) std::exit(1);
+}
+
+void bookings(Pair& pair) {
+    const Bookings b;
+    const std::string settles = Bookings::settles();
+    std::vector<std::uint8_t> room(b.all_lines.size());
+    const auto settle_ours = [&] { run_lines(pair, settles, room); };
+    const auto settle_peers = [&] {
+        if (!pair.peer.sound()) std::exit(1);
+        fast::Core<false> untested(pair.peers.data());
+        for (int object = 0; object < 32; ++object) timing::keep(untested.call(call(8, 0, object, 0)));
+    };
     pair.fresh();
-    for (const Call& c : calls) pair.both(c);
-    std::vector<std::uint8_t> room(19 * calls.size());
+    b.call_by_call([&](const Call& c) { pair.both(c); }, [&] { settle_ours(), settle_peers(); });
     const double run = timing::best(20, [&] {
         mv_fresh(pair.ours.data(), pair.ours.size());
-        const mv_answer a = mv_run(pair.ours.data(), pair.ours.size(), reinterpret_cast<const std::uint8_t*>(text.data()),
-                                   text.size(), room.data(), room.size());
-        if (a.value != calls.size()) std::exit(1);
+        run_lines(pair, b.all_lines, room);
     });
-    const double single = timing::best(4, [&] {
+    const double single = timing::best(20, [&] {
         mv_fresh(pair.ours.data(), pair.ours.size());
-        for (const Call& c : calls) timing::keep(pair.our_call(c));
+        b.call_by_call([&](const Call& c) { timing::keep(pair.our_call(c)); }, settle_ours);
     });
-    const double peer = timing::best(4, [&] {
+    const double peer = timing::best(20, [&] {
         pair.peer.fresh();
-        for (const Call& c : calls) timing::keep(pair.peer.call(c));
+        b.call_by_call([&](const Call& c) { timing::keep(pair.peer.call(c)); }, settle_peers);
     });
-    const double lines = static_cast<double>(calls.size());
-    timing::report("booking_call_by_call", single / count, peer / count);
-    timing::report("line_of_run_over_single_call", run / lines, single / lines);
-    std::printf("booking %.1f %.1f\n", run / count, single / count);
+    timing::report("booking_call_by_call", single / Bookings::kCount, peer / Bookings::kCount);
+    timing::report("line_of_run_over_single_call", run / static_cast<double>(b.all_lines.size() / 29),
+                   single / static_cast<double>(b.calls.size()));
+    std::printf("booking %.1f %.1f\n", run / Bookings::kCount, single / Bookings::kCount);
 }
 
 }  // namespace
