@@ -90,8 +90,8 @@ struct Cost {
 
 Cost cost(Pair& pair, const Call& c) {
     pair.both(c);
-    return {timing::best(4000, [&] { timing::keep(pair.our_call(c)); }),
-            timing::best(4000, [&] { timing::keep(pair.peer.call(c)); })};
+    return {timing::best(600, [&] { timing::keep(pair.our_call(c)); }),
+            timing::best(600, [&] { timing::keep(pair.peer.call(c)); })};
 }
 
 // Calls that leave the tables as they find them, so that each can be made over and over.
@@ -180,15 +180,15 @@ void bookings(Pair& pair) {
     };
     pair.fresh();
     b.call_by_call([&](const Call& c) { pair.both(c); }, [&] { settle_ours(), settle_peers(); });
-    const double run = timing::best(20, [&] {
+    const double run = timing::best(3, [&] {
         mv_fresh(pair.ours.data(), pair.ours.size());
         run_lines(pair, b.all_lines, room);
     });
-    const double single = timing::best(20, [&] {
+    const double single = timing::best(3, [&] {
         mv_fresh(pair.ours.data(), pair.ours.size());
         b.call_by_call([&](const Call& c) { timing::keep(pair.our_call(c)); }, settle_ours);
     });
-    const double peer = timing::best(20, [&] {
+    const double peer = timing::best(3, [&] {
         pair.peer.fresh();
         b.call_by_call([&](const Call& c) { timing::keep(pair.peer.call(c)); }, settle_peers);
     });

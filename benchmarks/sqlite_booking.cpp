@@ -62,7 +62,7 @@ int main() {
         finish(record);
         finish(commit);
     };
-    const double each = timing::best(20, [&] {
+    const double each = timing::best(3, [&] {
         finish(clear);
         for (int i = 0; i < 250; ++i) book(i % 32);
     });

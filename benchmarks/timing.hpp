@@ -10,11 +10,11 @@ inline double now() {
     return std::chrono::duration<double, std::nano>(std::chrono::steady_clock::now().time_since_epoch()).count();
 }
 
-// The time of one of `count` turns, the best of nine repeats: what disturbs a repeat only makes it longer.
+// The time of one of `count` turns, the best of many repeats: what disturbs a repeat only makes it longer.
 template <class Turn>
 double best(int count, Turn turn) {
     double least = 1e300;
-    for (int repeat = 0; repeat < 9; ++repeat) {
+    for (int repeat = 0; repeat < 60; ++repeat) {
         const double began = now();
         for (int i = 0; i < count; ++i) turn();
         const double each = (now() - began) / count;
