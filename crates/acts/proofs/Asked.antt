@@ -1,4 +1,4 @@
--- A call is what its used fields say, since its unused fields are zero; so what decides the call of those fields decides it.
+-- A call is what its used fields say, since its unused fields are zero; so what refuses the call of those fields refuses it.
 -- Rests on the rules' Frames, on basics and the refusals' Reasons. Assumes nothing.
 use mathlib.Core.Path.{_≡_, refl, ap, sym, subst}
 use mathlib.Core.Bool.{Bool, true, false, cond, _&&_, _||_}
@@ -9,8 +9,8 @@ use Rattle.rules.specs.Tables.{Txn, Obj, txn, obj}
 use Rattle.rules.specs.Answers.{Kind, Call}
 use Rattle.rules.specs.Frames.{Fields, fields-of, unused-zero}
 use Rattle.basics.specs.Logic.{and-says, equal-says}
-use Rattle.refusals.specs.Reasons.{Decides}
-use Rattle.refusals.specs.declared.Decided.{Decided}
+use Rattle.refusals.specs.Reasons.{Refuses}
+use Rattle.refusals.specs.declared.Why.{Why}
 
 -- the call with another kind
 abbrev pub of-kind : Kind → Call → Call
@@ -54,9 +54,9 @@ bare-same c u =
       value = value-same (f .value) (c .value) (all .1) n;
     }
 
--- what decides the call of the used fields decides the call
-pub decided : (ws : List ℕ) (c : Call) (k : Kind) (d : Decided) → c .kind ≡ k → T (unused-zero c)
-    → Decides ws (bare (fields-of k) (of-kind k c)) d → Decides ws c d
-decided ws c k d e u h =
-    subst (λ (b : Call). Decides ws b d) (bare-same c u)
-    (subst (λ (j : Kind). Decides ws (bare (fields-of j) (of-kind j c)) d) (sym e) h)
+-- what refuses the call of the used fields refuses the call
+pub refused-as : (ws : List ℕ) (c : Call) (k : Kind) (w : Why) → c .kind ≡ k → T (unused-zero c)
+    → Refuses ws (bare (fields-of k) (of-kind k c)) w → Refuses ws c w
+refused-as ws c k w e u h =
+    subst (λ (b : Call). Refuses ws b w) (bare-same c u)
+    (subst (λ (j : Kind). Refuses ws (bare (fields-of j) (of-kind j c)) w) (sym e) h)

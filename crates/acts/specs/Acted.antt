@@ -1,17 +1,17 @@
 -- What it means that a call on sound words was answered and left as the rules say.
--- Rests on the rules' Answers and Layout, and on calls' Meaning.
+-- Rests on the rules' Answers and Layout, on calls' Meaning and lookups' Places.
 use mathlib.Core.Path.{_≡_}
 use mathlib.Core.Bool.{Bool, not, _&&_}
 use mathlib.Core.List.{List}
 use mathlib.Core.Option.{Option, none, some}
 use Prim.Native.Nat.{ℕ}
-use lib.Dec.{T}
 use Rattle.rules.specs.Sets.{has}
-use Rattle.rules.specs.Tables.{Live, is-live, place-of}
+use Rattle.rules.specs.Tables.{Live}
 use Rattle.rules.specs.Answers as rules
 use Rattle.rules.specs.Layout.{pack, unpack}
 use Rattle.calls.specs.declared.Answer.{Answer}
 use Rattle.calls.specs.Meaning.{answer-of}
+use Rattle.lookups.specs.Places.{live-place}
 
 -- the answer is the rules', and the words left are what the rules' tables pack to
 pub record Acted (ws : List ℕ) (c : rules.Call) (a : Answer) (vs : List ℕ) : Type 0 where
@@ -23,9 +23,9 @@ pub record Did (ws : List ℕ) (c : rules.Call) (r : ℕ) (vs : List ℕ) : Type
   pub given : r ≡ rules.done-value (c .kind) (unpack ws) c
   pub left : vs ≡ pack (rules.done-leaves (c .kind) (unpack ws) c)
 
--- p is the place of the transaction that the call names, where that is live
+-- p is the place of the transaction that the call names, or 32 where that is not live
 abbrev pub Placed : List ℕ → rules.Call → ℕ → Type 0
-Placed ws c p = T (is-live (unpack ws .live) (c .who)) → p ≡ place-of (unpack ws .live) (c .who)
+Placed ws c p = p ≡ live-place (unpack ws .live) (c .who)
 
 -- object i is accessed and not prepared
 abbrev pub is-open : Live → ℕ → Bool

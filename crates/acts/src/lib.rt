@@ -15,7 +15,8 @@ ghost use Rattle.rules.specs.Frames.{unused-zero};
 ghost use Rattle.rules.specs.Layout.{sound-words, pack, unpack};
 ghost use Rattle.sound_laws.specs.Access.{MayAccess};
 ghost use Rattle.calls.specs.Meaning.{txn-of, lsn-of, obj-of, call-of};
-ghost use Rattle.refusals.specs.Reasons.{reason-of, Decides};
+ghost use Rattle.lookups.specs.Places.{live-place};
+ghost use Rattle.refusals.specs.Reasons.{reason-of, Refuses};
 ghost use Rattle.acts.specs.Acted.{Acted, Placed, Did, is-open, number-or};
 use calls::Answer;
 use calls::Call;
@@ -23,28 +24,16 @@ use calls::Kind;
 use calls::Lsn;
 use calls::Obj;
 use calls::Txn;
-use refusals::Decided;
 use refusals::Why;
 
 // ---- what the words say
 
-// Whether the transaction is live. A free place has the number 0, which names no one.
-fn is_live(words: &[u64], x: Txn) -> bool
-    requires { ⌜ T (sound-words (now words)) ⌝ }
-    ensures { λ r. ⌜ r ≡ is-live-in (unpack (now (words .entry)) .live) (txn-of x) ⌝ }
-{
-    if x.num == 0 {
-        return false;
-    }
-    lookups::place_of(words, x) < 32
-}
-
 // 1 for a live transaction, 2 for a committed one, 3 for an aborted one. The log's count is the number of its last record.
-fn status(words: &[u64], x: Txn) -> u64
-    requires { ⌜ T (sound-words (now words)) ⌝ }
+fn status(words: &[u64], x: Txn, p: usize) -> u64
+    requires { ⌜ T (sound-words (now words)) × (p ≡ live-place (unpack (now words) .live) (txn-of x)) ⌝ }
     ensures { λ r. ⌜ r ≡ status-of (unpack (now (words .entry))) (txn-of x) ⌝ }
 {
-    if is_live(words, x) {
+    if p < 32 {
         return 1;
     }
     let number = lookups::log_number(words, x);
@@ -105,17 +94,10 @@ fn first_unprepared(words: &[u64], p: usize) -> Obj
 
 // ---- whether the call is done
 
-// A reason alone, for a call that names no transaction.
-fn without_place(why: Why) -> Decided
-    ensures { λ r. ⌜ r .why ≡ why ⌝ }
-{
-    Decided { why, place: 32 }
-}
-
-// Why the call is refused, if it is.
-fn decide(words: &[u64], c: Call) -> Decided
-    requires { ⌜ T (sound-words (now words)) × T (unused-zero (call-of c)) ⌝ }
-    ensures { λ r. ⌜ Decides (now (words .entry)) (call-of c) r ⌝ }
+// Why the call is refused, if it is; p is the place of the transaction that it names, or 32 where that is not live.
+fn decide(words: &[u64], c: Call, p: usize) -> Why
+    requires { ⌜ T (sound-words (now words)) × T (unused-zero (call-of c)) × Placed (now words) (call-of c) p ⌝ }
+    ensures { λ r. ⌜ Refuses (now (words .entry)) (call-of c) r ⌝ }
 {
     let kind = c.kind;
     let x = c.who;
@@ -123,20 +105,17 @@ fn decide(words: &[u64], c: Call) -> Decided
     let v = c.value;
     match kind {
         Kind::Start => refusals::of_start(words),
-        Kind::Read => refusals::of_access(words, x, o),
-        Kind::Write => refusals::of_access(words, x, o),
-        Kind::Prepare => refusals::of_prepare(words, x, o),
-        Kind::Save => without_place(refusals::of_object(o)),
-        Kind::Commit => refusals::of_commit(words, x),
-        Kind::Abort => refusals::of_abort(words, x),
-        Kind::Settle => without_place(refusals::of_object(o)),
-        Kind::Crash => without_place(refusals::of_set(v)),
-        Kind::Restart => without_place(Why::Done),
-        Kind::Status => Decided {
-            why: refusals::of_status(words, x),
-            place: lookups::place_of(words, x),
-        },
-        Kind::Look => without_place(refusals::of_object(o)),
+        Kind::Read => refusals::of_access(words, x, p, o),
+        Kind::Write => refusals::of_access(words, x, p, o),
+        Kind::Prepare => refusals::of_prepare(words, x, p, o),
+        Kind::Save => refusals::of_object(o),
+        Kind::Commit => refusals::of_commit(words, x, p),
+        Kind::Abort => refusals::of_transaction(words, x, p),
+        Kind::Settle => refusals::of_object(o),
+        Kind::Crash => refusals::of_set(v),
+        Kind::Restart => Why::Done,
+        Kind::Status => refusals::of_status(words, x),
+        Kind::Look => refusals::of_object(o),
     }
 }
 
@@ -178,16 +157,14 @@ fn refusal_number(why: Why) -> u64
 }
 
 // The value given with a refusal for any reason but that the transaction lost an object.
-fn refusal_value(words: &[u64], c: Call, d: Decided) -> u64
-    requires { ⌜ T (sound-words (now words)) × Decides (now words) (call-of c) d ⌝ }
-    ensures { λ r. ⌜ ((q : Refusal) → reason-of (d .why) ≡ some q → (q ≡ lost → ⊥) → r ≡ value-of q (unpack (now (words .entry))) (call-of c)) ⌝ }
+fn refusal_value(words: &[u64], c: Call, why: Why, p: usize) -> u64
+    requires { ⌜ T (sound-words (now words)) × Refuses (now words) (call-of c) why × Placed (now words) (call-of c) p ⌝ }
+    ensures { λ r. ⌜ ((q : Refusal) → reason-of why ≡ some q → (q ≡ lost → ⊥) → r ≡ value-of q (unpack (now (words .entry))) (call-of c)) ⌝ }
 {
-    let why = d.why;
-    let p = d.place;
     let x = c.who;
     let o = c.what;
     match why {
-        Why::NoLongerLive => status(words, x),
+        Why::NoLongerLive => status(words, x, p),
         Why::Wait => lookups::holder(words, o).num,
         Why::Died => lookups::holder(words, o).num,
         Why::Unprepared => first_unprepared(words, p).num as u64,
@@ -198,12 +175,10 @@ fn refusal_value(words: &[u64], c: Call, d: Decided) -> u64
 }
 
 // The answer to a call that is refused, and what the refusal leaves: whoever lost an object or died falls.
-fn refuse(words: &mut [u64], c: Call, d: Decided) -> Answer
-    requires { ⌜ T (sound-words (now words)) × Decides (now words) (call-of c) d × (reason-of (d .why) ≡ none → ⊥) ⌝ }
+fn refuse(words: &mut [u64], c: Call, why: Why, p: usize) -> Answer
+    requires { ⌜ T (sound-words (now words)) × Refuses (now words) (call-of c) why × Placed (now words) (call-of c) p × (reason-of why ≡ none → ⊥) ⌝ }
     ensures { λ r. ⌜ Acted (now (words .entry)) (call-of c) r (now (words .exit)) ⌝ }
 {
-    let why = d.why;
-    let p = d.place;
     let number = refusal_number(why);
     match why {
         Why::Lost => {
@@ -214,7 +189,7 @@ fn refuse(words: &mut [u64], c: Call, d: Decided) -> Answer
             }
         }
         Why::Died => {
-            let holder = refusal_value(words, c, d);
+            let holder = refusal_value(words, c, why, p);
             fall(words, p);
             Answer {
                 number,
@@ -222,7 +197,7 @@ fn refuse(words: &mut [u64], c: Call, d: Decided) -> Answer
             }
         }
         _ => {
-            let value = refusal_value(words, c, d);
+            let value = refusal_value(words, c, why, p);
             Answer { number, value }
         }
     }
@@ -307,7 +282,7 @@ fn give(words: &mut [u64], c: Call, p: usize) -> u64
         Kind::Settle => ends::settle(words, o),
         Kind::Crash => ends::crash(words, v),
         Kind::Restart => ends::restart(words),
-        Kind::Status => status(words, x),
+        Kind::Status => status(words, x, p),
         Kind::Look => words[674 + i],
     }
 }
@@ -328,10 +303,10 @@ pub fn call(words: &mut [u64], c: Call) -> Answer
     requires { ⌜ T (sound-words (now words)) × T (unused-zero (call-of c)) ⌝ }
     ensures { λ r. ⌜ Acted (now (words .entry)) (call-of c) r (now (words .exit)) ⌝ }
 {
-    let d = decide(words, c);
-    let why = d.why;
+    let p = lookups::live_place(words, c.who);
+    let why = decide(words, c, p);
     match why {
-        Why::Done => done(words, c, d.place),
-        _ => refuse(words, c, d),
+        Why::Done => done(words, c, p),
+        _ => refuse(words, c, why, p),
     }
 }

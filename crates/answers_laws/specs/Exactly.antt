@@ -2,8 +2,8 @@
 -- does, with its value and what it leaves.
 -- Rests on the rules' Answers, and on basics' Logic and Lists. Assumes nothing.
 use mathlib.Core.Path.{_≡_, refl, ap, sym, _∙_}
-use mathlib.Core.Bool.{Bool}
-use mathlib.Core.List.{List, [], _∷_}
+use mathlib.Core.Bool.{Bool, true, false, cond}
+use mathlib.Core.List.{List, [], _∷_, _++_}
 use mathlib.Core.Logic.{_⊎_, inl, inr, _↔_}
 use mathlib.Core.Option.{Option, none, some}
 use Prim.Native.Nat.{ℕ}
@@ -88,7 +88,7 @@ not-done r e =
 -- ---- the first of a list that passes
 
 module _ (f : Refusal → Bool) where
-  first-is : (qs : List Refusal) (r : Refusal) → IsFirst f qs r → first qs f ≡ some r
+  pub first-is : (qs : List Refusal) (r : Refusal) → IsFirst f qs r → first qs f ≡ some r
   unfolding first
   first-is [] r h = absurd h
   first-is (q ∷ qs) r (inl h) = cond-true (f q) (some q) (first qs f) (h .1) ∙ ap some (h .0)
@@ -99,10 +99,31 @@ module _ (f : Refusal → Bool) where
   first-passes (q ∷ qs) r (inl h) = rw (h .0) at (h .1)
   first-passes (q ∷ qs) r (inr h) = first-passes qs r (h .1)
 
-  first-none : (qs : List Refusal) → All (λ q. T (f q) → ⊥) qs → first qs f ≡ none
+  pub first-none : (qs : List Refusal) → All (λ q. T (f q) → ⊥) qs → first qs f ≡ none
   unfolding first
   first-none [] h = refl
   first-none (q ∷ qs) h = cond-false (f q) (some q) (first qs f) (h .0) ∙ first-none qs (h .1)
+
+  -- where none of a list passes, the rest tells the first; where one does, it is the first whatever the rest
+  pub first-past : (qs rest : List Refusal) → none ≡ first qs f → first (qs ++ rest) f ≡ first rest f
+  unfolding first
+  first-past [] rest e = refl
+  first-past (q ∷ qs) rest e = go (f q) (first-past qs rest) e
+    where
+      go : (b : Bool) → (none ≡ first qs f → first (qs ++ rest) f ≡ first rest f) → none ≡ cond b (some q) (first qs f)
+          → cond b (some q) (first (qs ++ rest) f) ≡ first rest f
+      go true more d = let z : _≡_ {A = ℕ} 0 1 = cc in absurd (omega arith)
+      go false more d = more d
+
+  pub first-stop : (qs rest : List Refusal) (w : Option Refusal) → w ≡ first qs f → (w ≡ none → ⊥) → w ≡ first (qs ++ rest) f
+  unfolding first
+  first-stop [] rest w e some-one = absurd (some-one e)
+  first-stop (q ∷ qs) rest w e some-one = go (f q) (λ d. first-stop qs rest w d some-one) e
+    where
+      go : (b : Bool) → (w ≡ first qs f → w ≡ first (qs ++ rest) f) → w ≡ cond b (some q) (first qs f)
+          → w ≡ cond b (some q) (first (qs ++ rest) f)
+      go true more d = d
+      go false more d = more d
 
   one-or-none : (qs : List Refusal) → ((r : Refusal) × IsFirst f qs r) ⊎ All (λ q. T (f q) → ⊥) qs
   one-or-none [] = inr tt

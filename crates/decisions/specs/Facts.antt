@@ -1,23 +1,23 @@
 -- What the fact of each refusal says, in the terms that code tests: numbers and sets of the tables.
 -- Rests on the rules' Answers, on basics and sound_laws. Assumes nothing.
-use mathlib.Core.Path.{_≡_, refl, ap, sym, _∙_, subst}
-use mathlib.Core.Bool.{Bool, true, false, not, cond, _&&_, _||_}
-use mathlib.Core.Logic.{_⊎_, inl, inr, _↔_, ⊎-elim, Iff·rfl}
-use mathlib.Core.List.{List, [], _∷_}
-use Prim.Native.Nat.{ℕ, suc, _^_, _≤_, _<_}
+use mathlib.Core.Path.{_≡_, sym, subst}
+use mathlib.Core.Bool.{Bool, true, false, not, cond, _&&_}
+use mathlib.Core.Logic.{_↔_, ⊎-elim, Iff·rfl}
+use Prim.Native.Nat.{ℕ, _^_, _≤_, _<_}
 use native.Mathlib.Omega.{arith}
-use lib.Dec.{T, eqb, ltb, leb}
+use lib.Dec.{T, ltb}
 use lib.ListN.{length}
-use Rattle.rules.specs.Tests.{_⇒_, every, some-below, lowest}
+use Rattle.rules.specs.Tests.{_⇒_, some-below, lowest}
 use Rattle.rules.specs.Sets.{width, has, collect, within}
-use Rattle.rules.specs.Tables.{Txn, Obj, Tables, txn, obj, nobody, same, object-count, place-count, chain-room, log-room, last-number, object, place, is-free, place-of, is-live, sets-of, chain}
+use Rattle.rules.specs.Tables.{Tables, nobody, same, object-count, place-count, chain-room, log-room, last-number, object, place, is-free, is-live, chain}
 use Rattle.rules.specs.Sound.{sound}
 use Rattle.rules.specs.Steps.{free-places}
-use Rattle.rules.specs.Answers.{Kind, is-crash, is-commit, kind-number, same-kind, Call, unsound, no-such-object, never-given-out, no-longer-live, after-a-prepare, lost, wait, died, not-accessed, prepared-before, chain-full, unprepared, unsaved, dependency-live, log-full, places-full, numbers-spent, asker, holder, is-unprepared, is-unsaved, is-missing, is-lost, is-out-of-range, fact}
-use Rattle.basics.specs.Logic.{and-says, or-says, not-says, equal-says, at-most-says, below-says, passes-or-fails}
+use Rattle.rules.specs.Answers.{is-crash, is-commit, same-kind, Call, unsound, no-such-object, never-given-out, no-longer-live, after-a-prepare, lost, wait, died, not-accessed, prepared-before, chain-full, unprepared, unsaved, dependency-live, log-full, places-full, numbers-spent, asker, holder, is-unprepared, is-unsaved, is-missing, is-lost, is-out-of-range, fact}
+use Rattle.basics.specs.Logic.{and-says, or-says, not-says, equal-says, at-most-says, below-says}
 use Rattle.basics.specs.Ranges.{every-at, every-of, not-every, some-at, some-of, lowest-at, lowest-is}
 use Rattle.basics.specs.Sets.{has-collect, has-zero, collect-lt, no-member, within-says}
-use Rattle.sound_laws.specs.Live.{At, live-at, at-live}
+use Rattle.sound_laws.specs.Means.{means}
+use Rattle.sound_laws.specs.Known.{live-given}
 
 -- a test that says something, and its negation
 ruleset tells = (and-says, or-says, not-says, equal-says, at-most-says, below-says)
@@ -48,31 +48,17 @@ module _ (t : Tables) (c : Call) where
   unfolding fact is-out-of-range
   set-says e = subst (λ (b : Bool). T (cond b (not (ltb (c .value) (2 ^ width))) (not (ltb o object-count))) ↔ (2 ^ width ≤ c .value)) (sym e) (not-below (c .value) (2 ^ width))
 
-  pub never-says : T (fact never-given-out t c) ↔ ((x ≡ 0) ⊎ (t .next .num ≤ x))
+  -- a live transaction was given out
+  pub live-given-out : T (sound t) → T (is-live (t .live) (c .who)) → T (fact never-given-out t c) → ⊥
   unfolding fact
-  never-says =
-      let o = or-says (same (c .who) nobody) (not (ltb x (t .next .num))) in
-      let n = not-below x (t .next .num) in
-      (λ u. ⊎-elim (λ w. inl (equal-says x 0 .0 w)) (λ w. inr (n .0 w)) (o .0 u), λ d. o .1 (⊎-elim (λ e. inl (equal-says x 0 .1 e)) (λ w. inr (n .1 w)) d))
+  live-given-out s l u =
+      let given = live-given t (means t s) (c .who) l in
+      ⊎-elim (λ w. let e = equal-says x 0 .0 w in omega arith) (λ w. let k = not-below x (t .next .num) .0 w in omega arith)
+      (or-says (same (c .who) nobody) (not (ltb x (t .next .num))) .0 u)
 
-  -- a number that names somebody is live exactly where it has a place
-  pub gone-says : (x ≡ 0 → ⊥) → T (fact no-longer-live t c) ↔ (place-count ≤ place-of (t .live) (c .who))
-  unfolding fact is-live
-  gone-says z =
-      let p = place-of (t .live) (c .who) in
-      let n = not-says (not (same (c .who) nobody) && ltb p place-count) in
-      let a = and-says (not (same (c .who) nobody)) (ltb p place-count) in
-      let somebody = not-says (same (c .who) nobody) .1 (λ w. z (equal-says x 0 .0 w)) in (
-        λ u. let f : p < place-count → ⊥ = λ k. n .0 u (a .1 (somebody, below-says p place-count .1 k)) in omega arith,
-        λ h. n .1 (λ w. let k = below-says p place-count .0 (a .0 w .1) in omega arith),
-      )
-
-  -- so one with a place is live
-  pub placed-live : (x ≡ 0 → ⊥) → place-of (t .live) (c .who) < place-count → T (is-live (t .live) (c .who))
-  unfolding is-live
-  placed-live z h =
-      and-says (not (same (c .who) nobody)) (ltb (place-of (t .live) (c .who)) place-count) .1
-      (not-says (same (c .who) nobody) .1 (λ w. z (equal-says x 0 .0 w)), below-says (place-of (t .live) (c .who)) place-count .1 h)
+  pub gone-says : T (fact no-longer-live t c) ↔ (T (is-live (t .live) (c .who)) → ⊥)
+  unfolding fact
+  gone-says = not-says (is-live (t .live) (c .who))
 
   pub prepared-says : T (fact after-a-prepare t c) ↔ (asker t c .prepared ≡ 0 → ⊥)
   unfolding fact

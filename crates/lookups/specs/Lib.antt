@@ -1,3 +1,4 @@
 pub mod Entries
+pub mod Places
 pub mod Rounds
 pub mod Scans

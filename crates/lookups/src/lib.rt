@@ -12,6 +12,7 @@ ghost use Rattle.rules.specs.Steps.{free-places as free-in};
 ghost use Rattle.rules.specs.Layout.{number-at, word-count, sound-words, unpack};
 ghost use Rattle.calls.specs.Meaning.{txn-of, lsn-of, obj-of};
 ghost use Rattle.lookups.specs.Entries.{entry-of, entry-words};
+ghost use Rattle.lookups.specs.Places.{live-place};
 ghost use Rattle.lookups.specs.Rounds.{joins-in};
 ghost use Rattle.lookups.specs.Scans.{first-at, last-at};
 use calls::Lsn;
@@ -60,12 +61,23 @@ pub fn seat(words: &[u64], x: Txn) -> usize
     scan(words, 514, 32, x.num)
 }
 
-// The place of a live transaction, or 32 where it has none.
+// The place of a live transaction, or 32 where it has none. The number 0 has the lowest free place.
 pub fn place_of(words: &[u64], x: Txn) -> usize
     requires { ⌜ T (sound-words (now words)) ⌝ }
     ensures { λ r. ⌜ r ≡ place-in (unpack (now (words .entry)) .live) (txn-of x) ⌝ }
 {
     seat(words, x)
+}
+
+// The place of a transaction, or 32 where it is not live: the number 0 names nobody.
+pub fn live_place(words: &[u64], x: Txn) -> usize
+    requires { ⌜ T (sound-words (now words)) ⌝ }
+    ensures { λ r. ⌜ r ≡ live-place (unpack (now (words .entry)) .live) (txn-of x) ⌝ }
+{
+    if x.num == 0 {
+        return 32;
+    }
+    place_of(words, x)
 }
 
 // The log number of a logged transaction, or one past the last record where it is not logged.

@@ -1,70 +1,49 @@
--- A decision is right where its reason comes first in the call's order and its place is that of the transaction named.
--- Rests on the rules' Answers, on answers_laws, and on Readings. Assumes nothing.
-use mathlib.Core.Path.{_≡_, sym, subst, _∙_}
-use mathlib.Core.Bool.{Bool, true, false, not, _&&_}
-use mathlib.Core.Logic.{_⊎_}
-use mathlib.Core.List.{List}
-use mathlib.Core.Option.{some}
-use Prim.Native.Nat.{ℕ, _≤_, _<_}
-use lib.Dec.{T, eqb, ltb}
-use borrow.Author.Tests.{not-true, not-false}
-use Rattle.rules.specs.Tables.{txn, place-count, place-of, is-live}
-use Rattle.rules.specs.Answers.{Kind, Call, Refusal, order, fact}
-use Rattle.rules.specs.Layout.{unpack, live-in, sound-words}
+-- A reason is a call's where it is the first of the call's order that holds, whole or part by part.
+-- Rests on the rules' Answers, on words_laws, answers_laws and decisions, and on Reasons. Assumes nothing.
+use mathlib.Core.Path.{_≡_, ap, sym, _∙_}
+use mathlib.Core.Bool.{Bool}
+use mathlib.Core.List.{List, [], _∷_, _++_}
+use mathlib.Core.Option.{none, some}
+use Prim.Native.Nat.{ℕ}
+use native.Mathlib.Omega.{arith}
+use lib.Dec.{T}
+use Rattle.rules.specs.Answers.{Call, Refusal, unsound, order, fact, first, refusal}
+use Rattle.rules.specs.Layout.{unpack, sound-words}
 use Rattle.basics.specs.Lists.{All}
-use Rattle.answers_laws.specs.Exactly.{IsFirst, Refused, Allowed, refused-why, done-why}
+use Rattle.words_laws.specs.Words.{unpacked-sound}
+use Rattle.answers_laws.specs.Exactly.{IsFirst, first-is, first-none, first-past, first-stop}
+use Rattle.decisions.specs.Facts.{not-unsound}
 use Rattle.refusals.specs.declared.Why.{Why}
 use Rattle.refusals.specs.declared.Why.the-variants.{Done}
-use Rattle.refusals.specs.Reasons.{reason-of, asking, Decides}
-use Rattle.refusals.proofs.Readings.{was-given, never-given, asker, asker-read}
+use Rattle.refusals.specs.Reasons.{reason-of, Refuses, FirstOf}
 
-module _ (ws : List ℕ) (c : Call) (p : ℕ) (e : T (is-live (unpack ws .live) (c .who)) → p ≡ place-of (unpack ws .live) (c .who)) where
-  pub refused : (w : Why) (r : Refusal) → reason-of w ≡ some r → Refused (unpack ws) c r → Decides ws c (record { why = w; place = p })
-  refused w r means f = record { reason = means ∙ sym (refused-why (unpack ws) c r f); at = e }
+-- a reason is not none
+pub some-not-none : (r : Refusal) → some r ≡ none → ⊥
+some-not-none r e = let z : _≡_ {A = ℕ} 0 1 = cc in omega arith
 
-  pub allowed : Allowed (unpack ws) c → Decides ws c (record { why = Done; place = p })
-  allowed f = record { reason = sym (done-why (unpack ws) c f); at = e }
+module _ (ws : List ℕ) (c : Call) where
+  abbrev holds : Refusal → Bool
+  holds r = fact r (unpack ws) c
 
--- ---- a call that names a transaction
+  module _ (l : List Refusal) where
+    pub because : (w : Why) (r : Refusal) → reason-of w ≡ some r → IsFirst holds l r → FirstOf ws c l w
+    because w r means f = means ∙ sym (first-is holds l r f)
 
--- where the code looked for it
-pub record Asked (ws : List ℕ) (x p : ℕ) : Type 0 where
-  pub sound-run : T (sound-words ws)
-  pub at : p ≡ place-of (unpack ws .live) (txn x)
+    pub no-reason : All (λ r. T (holds r) → ⊥) l → FirstOf ws c l Done
+    no-reason f = sym (first-none holds l f)
 
-module _ {ws : List ℕ} {x p : ℕ} (q : Asked ws x p) (k : Kind) (o v : ℕ) {l : List Refusal} (in-order : order k ≡ l) where
-  pub refuses : (w : Why) (r : Refusal) → reason-of w ≡ some r → IsFirst (λ f. fact f (unpack ws) (asking k x o v)) l r
-      → Decides ws (asking k x o v) (record { why = w; place = p })
-  refuses w r means first =
-      refused ws (asking k x o v) p (λ _. q .at) w r means
-      (subst (λ (m : List Refusal). IsFirst (λ f. fact f (unpack ws) (asking k x o v)) m r) (sym in-order) first)
+    -- none of a part holds, and the rest tells the reason
+    pub after : (rest : List Refusal) → FirstOf ws c l Done → (w : Why) → FirstOf ws c rest w → FirstOf ws c (l ++ rest) w
+    after rest z w f = f ∙ sym (first-past holds l rest z)
 
-  pub allows : All (λ f. T (fact f (unpack ws) (asking k x o v)) → ⊥) l → Decides ws (asking k x o v) (record { why = Done; place = p })
-  allows nothing =
-      allowed ws (asking k x o v) p (λ _. q .at)
-      (subst (All (λ f. T (fact f (unpack ws) (asking k x o v)) → ⊥)) (sym in-order) nothing)
+    -- one of a part holds, and the rest is not asked
+    pub before : (rest : List Refusal) (w : Why) → (reason-of w ≡ none → ⊥) → FirstOf ws c l w → FirstOf ws c (l ++ rest) w
+    before rest w n f = first-stop holds l rest (reason-of w) f n
 
--- it was given out, and is live
-pub record Alive (ws : List ℕ) (x p : ℕ) : Type 0 where
-  pub asked : Asked ws x p
-  pub somebody : x ≡ 0 → ⊥
-  pub below-next : x < unpack ws .next .num
-  pub placed : p < place-count
-
--- the words of its place are its sets
-pub asker-is : {ws : List ℕ} {x p : ℕ} → Alive ws x p → live-in ws p ≡ asker ws x
-asker-is {ws} {x} {p} n = asker-read ws (n .asked .sound-run) x p (n .asked .at) (n .placed)
-
--- the test whether a number was given out
-abbrev pub given : List ℕ → ℕ → Bool
-given ws x = not (eqb x 0) && ltb x (unpack ws .next .num)
-
-module _ {ws : List ℕ} {x p : ℕ} (q : Asked ws x p) (f : Bool) (tested : f ≡ given ws x) where
-  pub was-out : not f ≡ false → (x ≡ 0 → ⊥) × (x < unpack ws .next .num)
-  was-out h = was-given x (unpack ws .next .num) f tested (not-false f h)
-
-  pub never-out : not f ≡ true → (x ≡ 0) ⊎ (unpack ws .next .num ≤ x)
-  never-out h = never-given x (unpack ws .next .num) f tested (not-true f h)
-
-  pub alive : not f ≡ false → p < place-count → Alive ws x p
-  alive h k = record { asked = q; somebody = was-out h .0; below-next = was-out h .1; placed = k }
+    -- on sound words an order is what follows its first reason
+    pub decides : T (sound-words ws) → order (c .kind) ≡ unsound ∷ l → (w : Why) → FirstOf ws c l w → Refuses ws c w
+    unfolding refusal
+    decides s in-order w f =
+        f
+        ∙ sym (first-past holds (unsound ∷ []) l (sym (first-none holds (unsound ∷ []) (not-unsound (unpack ws) c (unpacked-sound ws s), tt))))
+        ∙ ap (λ (m : List Refusal). first m holds) (sym in-order)

@@ -8,7 +8,7 @@ use native.Mathlib.Omega.{arith}
 use lib.Dec.{T, eqb}
 use Rattle.rules.specs.Tests.{all, every, row, lowest}
 use Rattle.rules.specs.Sets.{has}
-use Rattle.rules.specs.Tables.{Entry, Live, Object, txn, obj, same, object-count, place-count, chain-room, object, place-of, chain}
+use Rattle.rules.specs.Tables.{Entry, Live, Object, txn, obj, same, object-count, place-count, chain-room, object, chain}
 use Rattle.rules.specs.Answers.{wrote-one-of}
 use Rattle.rules.specs.Layout.{chain-writer-at, word, unpack, entry-in, saved-count-in, queued-count-in, sound-words}
 use Rattle.basics.specs.Logic.{not-says, equal-says, is-true, is-false}
@@ -16,7 +16,9 @@ use Rattle.basics.specs.Ranges.{every-at, every-of, lowest-is, one-lowest, lowe
 use Rattle.words_laws.specs.Parts.{row-more}
 use Rattle.words_laws.specs.Fits.{chain-count-in}
 use Rattle.words_laws.specs.Unpacked.{object-read}
+use Rattle.lookups.specs.Places.{live-place}
 use Rattle.lookups.proofs.Fitting.{fitting}
+use Rattle.lookups.proofs.Living.{there-below}
 use Rattle.refusals.proofs.Readings.{asker, asker-read}
 use Rattle.refusals.specs.Lacking.{counted-in, lacks-in, is-lacking}
 
@@ -74,13 +76,13 @@ module _ (ws : List ℕ) (s : T (sound-words ws)) where
         ∙ all-row other (counted-in ws queued i) (entry-in ws i))
 
     -- the lowest that lacks an entry by the words does so by the tables
-    pub first-lacking-says : (p : ℕ) (e : p ≡ place-of (unpack ws .live) (txn x)) (k : p < place-count) (queued : Bool)
+    pub first-lacking-says : (p : ℕ) (e : p ≡ live-place (unpack ws .live) (txn x)) (k : p < place-count) (queued : Bool)
         → lowest object-count (is-lacking ws (txn x) p queued)
         ≡ lowest object-count (λ i. has (asker ws x .written) i && not (wrote-one-of (txn x) (entries queued i)))
     first-lacking-says p e k queued =
         lowest-same object-count (is-lacking ws (txn x) p queued)
         (λ i. has (asker ws x .written) i && not (wrote-one-of (txn x) (entries queued i)))
-        (λ i h. ap₂ _&&_ (ap (λ (l : Live). has (l .written) i) (asker-read ws s x p e k)) (lacks-says queued i h))
+        (λ i h. ap₂ _&&_ (ap (λ (l : Live). has (l .written) i) (asker-read ws s x p (there-below (unpack ws .live) (txn x) p e k) k)) (lacks-says queued i h))
 
 -- ---- what a loop meets
 

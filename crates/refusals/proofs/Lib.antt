@@ -1,4 +1,5 @@
 pub mod Readings
+pub mod Whys
 pub mod Deciding
 pub mod Naming
 pub mod Accessing

@@ -1,17 +1,18 @@
-// Why a call is refused: on sound words, the first reason of the call's order whose fact holds, found by the tests of one
-// function for each kind, in that order.
+// Why a call is refused: on sound words, the first reason of the call's order whose fact holds, found by tests in that
+// order. A place p that comes with a transaction is the one that it has, or 32 where it is not live.
 ghost use mathlib.Core.Path.{_≡_};
-ghost use mathlib.Core.Bool.{not, _&&_};
+ghost use mathlib.Core.Bool.{not, _||_};
 ghost use mathlib.Core.List.{List};
 ghost use Prim.Native.Nat.{ℕ, _<_};
 ghost use lib.Dec.{T, ltb};
 ghost use Rattle.rules.specs.Tests.{lowest};
-ghost use Rattle.rules.specs.Tables.{obj, nobody, same, object-count, place-count, place-of as place-in};
-ghost use Rattle.rules.specs.Answers.{is-start, is-prepare, is-commit, is-abort, is-crash, is-status, refusal, is-missing, is-unsaved};
+ghost use Rattle.rules.specs.Tables.{obj, nobody, same, object-count, place-count};
+ghost use Rattle.rules.specs.Answers.{is-start, is-prepare, is-commit, is-crash, is-status, is-missing, is-unsaved};
 ghost use Rattle.rules.specs.Layout.{sound-words, unpack};
 ghost use Rattle.calls.specs.Meaning.{txn-of, obj-of};
+ghost use Rattle.lookups.specs.Places.{live-place};
 ghost use Rattle.refusals.specs.Lacking.{counted-in, lacks-in, is-lacking};
-ghost use Rattle.refusals.specs.Reasons.{reason-of, calling, Decides, DecidesAccess, DecidesObject};
+ghost use Rattle.refusals.specs.Reasons.{calling, Refuses, RefusesAccess, RefusesObject, Lives, Names};
 use calls::Obj;
 use calls::Txn;
 
@@ -36,184 +37,45 @@ pub enum Why {
     NumbersSpent,
 }
 
-// A reason, with the place of the transaction that the call names where that is live: whatever the reason, so the place is
-// looked for before the first test.
-pub struct Decided {
-    pub why: Why,
-    pub place: usize,
-}
-
-// Whether the number was given out: from 1 to the next number less one.
-fn given_out(words: &[u64], x: Txn) -> bool
+// Whether the number was never given out: 0, or one from the next number on.
+fn never_given(words: &[u64], x: Txn) -> bool
     requires { ⌜ T (sound-words (now words)) ⌝ }
-    ensures { λ r. ⌜ r ≡ (not (same (txn-of x) nobody) && ltb (x .num) (unpack (now (words .entry)) .next .num)) ⌝ }
+    ensures { λ r. ⌜ r ≡ (same (txn-of x) nobody || not (ltb (x .num) (unpack (now (words .entry)) .next .num))) ⌝ }
 {
     let next = Txn { num: words[0] };
-    x.num != 0 && x.num < next.num
+    x.num == 0 || next.num <= x.num
 }
 
 // Start.
-pub fn of_start(words: &[u64]) -> Decided
+pub fn of_start(words: &[u64]) -> Why
     requires { ⌜ T (sound-words (now words)) ⌝ }
-    ensures { λ r. ⌜ Decides (now (words .entry)) (calling is-start nobody (obj 0) 0) r ⌝ }
+    ensures { λ r. ⌜ Refuses (now (words .entry)) (calling is-start nobody (obj 0) 0) r ⌝ }
 {
     let next = Txn { num: words[0] };
     if 999999 < next.num {
-        return Decided {
-            why: Why::NumbersSpent,
-            place: 32,
-        };
+        return Why::NumbersSpent;
     }
     if lookups::free_places(words) == 0 {
-        return Decided {
-            why: Why::PlacesFull,
-            place: 32,
-        };
-    }
-    Decided {
-        why: Why::Done,
-        place: 32,
-    }
-}
-
-// Read and write.
-pub fn of_access(words: &[u64], x: Txn, o: Obj) -> Decided
-    requires { ⌜ T (sound-words (now words)) ⌝ }
-    ensures { λ r. ⌜ DecidesAccess (now (words .entry)) (txn-of x) (obj-of o) r ⌝ }
-{
-    let i = o.num;
-    let p = lookups::place_of(words, x);
-    if 32 <= i {
-        return Decided {
-            why: Why::NoSuchObject,
-            place: p,
-        };
-    }
-    if !given_out(words, x) {
-        return Decided {
-            why: Why::NeverGivenOut,
-            place: p,
-        };
-    }
-    if 32 <= p {
-        return Decided {
-            why: Why::NoLongerLive,
-            place: p,
-        };
-    }
-    if words[610 + p] != 0 {
-        return Decided {
-            why: Why::AfterAPrepare,
-            place: p,
-        };
-    }
-    let holder = Txn {
-        num: words[770 + i],
-    };
-    if sets::has(words[546 + p], i as u64) {
-        if holder.num == x.num {
-            return Decided {
-                why: Why::Done,
-                place: p,
-            };
-        }
-        return Decided {
-            why: Why::Lost,
-            place: p,
-        };
-    }
-    if holder.num == 0 {
-        return Decided {
-            why: Why::Done,
-            place: p,
-        };
-    }
-    if x.num < holder.num {
-        return Decided {
-            why: Why::Wait,
-            place: p,
-        };
-    }
-    Decided {
-        why: Why::Died,
-        place: p,
-    }
-}
-
-// Prepare.
-pub fn of_prepare(words: &[u64], x: Txn, o: Obj) -> Decided
-    requires { ⌜ T (sound-words (now words)) ⌝ }
-    ensures { λ r. ⌜ Decides (now (words .entry)) (calling is-prepare (txn-of x) (obj-of o) 0) r ⌝ }
-{
-    let i = o.num;
-    let p = lookups::place_of(words, x);
-    if 32 <= i {
-        return Decided {
-            why: Why::NoSuchObject,
-            place: p,
-        };
-    }
-    if !given_out(words, x) {
-        return Decided {
-            why: Why::NeverGivenOut,
-            place: p,
-        };
-    }
-    if 32 <= p {
-        return Decided {
-            why: Why::NoLongerLive,
-            place: p,
-        };
-    }
-    if !sets::has(words[546 + p], i as u64) {
-        return Decided {
-            why: Why::NotAccessed,
-            place: p,
-        };
-    }
-    if sets::has(words[610 + p], i as u64) {
-        return Decided {
-            why: Why::PreparedBefore,
-            place: p,
-        };
-    }
-    let holder = Txn {
-        num: words[770 + i],
-    };
-    if holder.num != x.num {
-        return Decided {
-            why: Why::Lost,
-            place: p,
-        };
-    }
-    if sets::has(words[578 + p], i as u64) {
-        if 8 <= words[834 + i] + words[866 + i] {
-            return Decided {
-                why: Why::ChainFull,
-                place: p,
-            };
-        }
-    }
-    Decided {
-        why: Why::Done,
-        place: p,
-    }
-}
-
-// Save, settle and look, which name an object alone.
-pub fn of_object(o: Obj) -> Why
-    ensures { λ r. ⌜ DecidesObject (obj-of o) r ⌝ }
-{
-    if 32 <= o.num {
-        Why::NoSuchObject
+        Why::PlacesFull
     } else {
         Why::Done
     }
 }
 
+// Save, settle and look, which name an object alone.
+pub fn of_object(o: Obj) -> Why
+    ensures { λ r. ⌜ RefusesObject (obj-of o) r ⌝ }
+{
+    if o.num < 32 {
+        Why::Done
+    } else {
+        Why::NoSuchObject
+    }
+}
+
 // Crash, whose value is a set of objects.
 pub fn of_set(v: u64) -> Why
-    ensures { λ r. ⌜ ((ws : List ℕ) → T (sound-words ws) → reason-of r ≡ refusal (unpack ws) (calling is-crash nobody (obj 0) v)) ⌝ }
+    ensures { λ r. ⌜ ((ws : List ℕ) → T (sound-words ws) → Refuses ws (calling is-crash nobody (obj 0) v) r) ⌝ }
 {
     if 4294967296 <= v {
         Why::NoSuchObject
@@ -225,37 +87,95 @@ pub fn of_set(v: u64) -> Why
 // Status.
 pub fn of_status(words: &[u64], x: Txn) -> Why
     requires { ⌜ T (sound-words (now words)) ⌝ }
-    ensures { λ r. ⌜ reason-of r ≡ refusal (unpack (now (words .entry))) (calling is-status (txn-of x) (obj 0) 0) ⌝ }
+    ensures { λ r. ⌜ Refuses (now (words .entry)) (calling is-status (txn-of x) (obj 0) 0) r ⌝ }
 {
-    if given_out(words, x) {
-        Why::Done
-    } else {
+    if never_given(words, x) {
         Why::NeverGivenOut
+    } else {
+        Why::Done
     }
 }
 
-// Abort.
-pub fn of_abort(words: &[u64], x: Txn) -> Decided
-    requires { ⌜ T (sound-words (now words)) ⌝ }
-    ensures { λ r. ⌜ Decides (now (words .entry)) (calling is-abort (txn-of x) (obj 0) 0) r ⌝ }
+// Abort, which names a transaction alone. A live one was given out, so that is not asked of it.
+pub fn of_transaction(words: &[u64], x: Txn, p: usize) -> Why
+    requires { ⌜ T (sound-words (now words)) × (p ≡ live-place (unpack (now words) .live) (txn-of x)) ⌝ }
+    ensures { λ r. ⌜ Lives (now (words .entry)) (txn-of x) p r ⌝ }
 {
-    let p = lookups::place_of(words, x);
-    if !given_out(words, x) {
-        return Decided {
-            why: Why::NeverGivenOut,
-            place: p,
-        };
-    }
     if p < 32 {
-        return Decided {
-            why: Why::Done,
-            place: p,
-        };
+        return Why::Done;
     }
-    Decided {
-        why: Why::NoLongerLive,
-        place: p,
+    if never_given(words, x) {
+        return Why::NeverGivenOut;
     }
+    Why::NoLongerLive
+}
+
+// What read, write and prepare are first refused for: they name an object and a transaction.
+fn of_names(words: &[u64], x: Txn, p: usize, o: Obj) -> Why
+    requires { ⌜ T (sound-words (now words)) × (p ≡ live-place (unpack (now words) .live) (txn-of x)) ⌝ }
+    ensures { λ r. ⌜ Names (now (words .entry)) (txn-of x) p (obj-of o) r ⌝ }
+{
+    if 32 <= o.num {
+        return Why::NoSuchObject;
+    }
+    of_transaction(words, x, p)
+}
+
+// Read and write.
+pub fn of_access(words: &[u64], x: Txn, p: usize, o: Obj) -> Why
+    requires { ⌜ T (sound-words (now words)) × (p ≡ live-place (unpack (now words) .live) (txn-of x)) ⌝ }
+    ensures { λ r. ⌜ RefusesAccess (now (words .entry)) (txn-of x) (obj-of o) r ⌝ }
+{
+    let named = of_names(words, x, p, o);
+    let Why::Done = named else {
+        return named;
+    };
+    if words[610 + p] != 0 {
+        return Why::AfterAPrepare;
+    }
+    let holder = lookups::holder(words, o);
+    if sets::has(words[546 + p], o.num as u64) {
+        if holder.num == x.num {
+            return Why::Done;
+        }
+        return Why::Lost;
+    }
+    if holder.num == 0 {
+        return Why::Done;
+    }
+    if x.num < holder.num {
+        Why::Wait
+    } else {
+        Why::Died
+    }
+}
+
+// Prepare.
+pub fn of_prepare(words: &[u64], x: Txn, p: usize, o: Obj) -> Why
+    requires { ⌜ T (sound-words (now words)) × (p ≡ live-place (unpack (now words) .live) (txn-of x)) ⌝ }
+    ensures { λ r. ⌜ Refuses (now (words .entry)) (calling is-prepare (txn-of x) (obj-of o) 0) r ⌝ }
+{
+    let named = of_names(words, x, p, o);
+    let Why::Done = named else {
+        return named;
+    };
+    let i = o.num as u64;
+    if !sets::has(words[546 + p], i) {
+        return Why::NotAccessed;
+    }
+    if sets::has(words[610 + p], i) {
+        return Why::PreparedBefore;
+    }
+    let holder = lookups::holder(words, o);
+    if holder.num != x.num {
+        return Why::Lost;
+    }
+    if sets::has(words[578 + p], i) {
+        if 8 <= counted(words, o, true) {
+            return Why::ChainFull;
+        }
+    }
+    Why::Done
 }
 
 // How many entries of object o's chain count: the saved ones, with the queued ones or without.
@@ -309,7 +229,7 @@ fn first_lacking(words: &[u64], x: Txn, p: usize, queued: bool) -> Obj
 
 // The lowest object that the transaction x at place p wrote and whose chain has no entry of it, or 32 where there is none.
 pub fn first_missing(words: &[u64], x: Txn, p: usize) -> Obj
-    requires { ⌜ T (sound-words (now words)) × (p ≡ place-in (unpack (now words) .live) (txn-of x)) × (p < place-count) ⌝ }
+    requires { ⌜ T (sound-words (now words)) × (p ≡ live-place (unpack (now words) .live) (txn-of x)) × (p < place-count) ⌝ }
     ensures { λ r. ⌜ r .num ≡ lowest object-count (is-missing (unpack (now (words .entry))) (calling is-commit (txn-of x) (obj 0) 0)) ⌝ }
 {
     first_lacking(words, x, p, true)
@@ -317,64 +237,36 @@ pub fn first_missing(words: &[u64], x: Txn, p: usize) -> Obj
 
 // The lowest object that it wrote and whose saved entries have none of it, or 32 where there is none.
 pub fn first_unsaved(words: &[u64], x: Txn, p: usize) -> Obj
-    requires { ⌜ T (sound-words (now words)) × (p ≡ place-in (unpack (now words) .live) (txn-of x)) × (p < place-count) ⌝ }
+    requires { ⌜ T (sound-words (now words)) × (p ≡ live-place (unpack (now words) .live) (txn-of x)) × (p < place-count) ⌝ }
     ensures { λ r. ⌜ r .num ≡ lowest object-count (is-unsaved (unpack (now (words .entry))) (calling is-commit (txn-of x) (obj 0) 0)) ⌝ }
 {
     first_lacking(words, x, p, false)
 }
 
 // Commit.
-pub fn of_commit(words: &[u64], x: Txn) -> Decided
-    requires { ⌜ T (sound-words (now words)) ⌝ }
-    ensures { λ r. ⌜ Decides (now (words .entry)) (calling is-commit (txn-of x) (obj 0) 0) r ⌝ }
+pub fn of_commit(words: &[u64], x: Txn, p: usize) -> Why
+    requires { ⌜ T (sound-words (now words)) × (p ≡ live-place (unpack (now words) .live) (txn-of x)) ⌝ }
+    ensures { λ r. ⌜ Refuses (now (words .entry)) (calling is-commit (txn-of x) (obj 0) 0) r ⌝ }
 {
-    let p = lookups::place_of(words, x);
-    if !given_out(words, x) {
-        return Decided {
-            why: Why::NeverGivenOut,
-            place: p,
-        };
-    }
-    if 32 <= p {
-        return Decided {
-            why: Why::NoLongerLive,
-            place: p,
-        };
-    }
+    let named = of_transaction(words, x, p);
+    let Why::Done = named else {
+        return named;
+    };
     if !sets::within(words[546 + p], words[610 + p]) {
-        return Decided {
-            why: Why::Unprepared,
-            place: p,
-        };
+        return Why::Unprepared;
     }
-    let missing = first_missing(words, x, p);
-    if missing.num < 32 {
-        return Decided {
-            why: Why::Lost,
-            place: p,
-        };
+    if first_missing(words, x, p).num < 32 {
+        return Why::Lost;
     }
-    let unsaved = first_unsaved(words, x, p);
-    if unsaved.num < 32 {
-        return Decided {
-            why: Why::Unsaved,
-            place: p,
-        };
+    if first_unsaved(words, x, p).num < 32 {
+        return Why::Unsaved;
     }
     if words[642 + p] != 0 {
-        return Decided {
-            why: Why::DependencyLive,
-            place: p,
-        };
+        return Why::DependencyLive;
     }
     if 512 <= words[1] {
-        return Decided {
-            why: Why::LogFull,
-            place: p,
-        };
-    }
-    Decided {
-        why: Why::Done,
-        place: p,
+        Why::LogFull
+    } else {
+        Why::Done
     }
 }

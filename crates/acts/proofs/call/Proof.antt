@@ -1,18 +1,14 @@
--- `acts::call` meets its contract: what is decided says what the rules say, and each way acts on that.
+-- `acts::call` meets its contract: what is decided is what the rules say, and each way acts on that.
 -- Assumes nothing.
 use mathlib.Core.Path.{ap, sym, _∙_}
-use mathlib.Core.List.{List, [], _∷_}
-use mathlib.Core.Option.{none}
-use Prim.Native.Nat.{ℕ}
 use borrow.Author.Needs.{needs}
 use Rattle.refusals.specs.Reasons.{reason-of}
-use Rattle.acts.proofs.Reasons.{passed-over}
+use Rattle.refusals.proofs.Whys.{not-done}
 use Rattle.acts.proofs.call.Statement.{statement}
 use Rattle.acts.proofs.call.Tie as tie
 
--- the variants but Done
-abbrev but-done : List ℕ
-but-done = 1 ∷ 2 ∷ 3 ∷ 4 ∷ 5 ∷ 6 ∷ 7 ∷ 8 ∷ 9 ∷ 10 ∷ 11 ∷ 12 ∷ 13 ∷ 14 ∷ 15 ∷ 16 ∷ []
+live-place-requires : tie.Need-live-place-requires
+live-place-requires c κs = search needs
 
 decide-requires : tie.Need-decide-requires
 decide-requires c κs = search needs
@@ -22,13 +18,13 @@ enum-told c = search needs
 
 done-requires : tie.Need-done-requires
 done-requires c κs =
-    let made = c .before .before .before .decide in
-    (c .before .before .before .before .before .before .pre .0, sym (made .ensures .reason) ∙ ap reason-of (c .before .enum-told .given .1), made .ensures .at)
+    let decided = c .before .before .before .decide in
+    (c .before .before .before .before .before .before .before .before .pre .0, sym (decided .ensures) ∙ ap reason-of (c .before .enum-told .given .1), c .before .before .before .before .before .live-place .ensures)
 
 refuse-requires : tie.Need-refuse-requires
 refuse-requires c κs =
-    let made = c .before .before .decide in
-    (c .before .before .before .before .before .pre .0, made .ensures, passed-over but-done (made .result .why) none (c .before .match .keys2) tt)
+    let decided = c .before .before .decide in
+    (c .before .before .before .before .before .before .before .pre .0, decided .ensures, c .before .before .before .before .live-place .ensures, not-done (decided .result) (c .before .match .keys2))
 
 same-length : tie.Need-same-length
 same-length c = search needs
@@ -46,6 +42,7 @@ pub call-spec : {M : Type 1} → statement M
 call-spec =
     tie.close
     (tie.spec
+    live-place-requires
     decide-requires
     enum-told
     done-requires

@@ -2,21 +2,24 @@
 -- rules say of its kind.
 -- Assumes nothing.
 use mathlib.Core.Path.{_≡_, refl, ap, sym, _∙_}
+use mathlib.Core.List.{List}
 use Prim.Native.Nat.{ℕ, _<_}
 use native.Mathlib.Omega.{arith}
 use borrow.Author.Needs.{needs}
 use lib.Dec.{T}
-use Rattle.rules.specs.Tables.{Txn, Lsn, Tables, object-count, place-count, is-live}
+use Rattle.rules.specs.Tables.{Txn, Lsn, Tables, object-count, place-count, place-of, is-live}
 use Rattle.rules.specs.Falls.{fallen, how-many}
 use Rattle.rules.specs.Steps.{undo, abort, fall-count, look}
-use Rattle.rules.specs.Answers.{Kind, is-start, is-read, is-write, is-prepare, is-save, is-commit, is-abort, is-settle, is-crash, is-restart, is-status, is-look, Call, done-value, done-leaves}
+use Rattle.rules.specs.Answers.{Kind, is-start, is-read, is-write, is-prepare, is-save, is-commit, is-abort, is-settle, is-crash, is-look, Call, done-value, done-leaves}
 use Rattle.rules.specs.Layout.{pack, unpack}
 use Rattle.words_laws.specs.Says.{stable-value}
 use Rattle.words_laws.specs.Words.{sound-words-say, words-again}
 use Rattle.sound_laws.specs.Means.{Sound}
-use Rattle.sound_laws.specs.Live.{live-at}
+use Rattle.calls.specs.declared.Kind as calls
 use Rattle.calls.specs.Meaning.{kind-of, call-of}
 use Rattle.lookups.proofs.Fitting.{fitting}
+use Rattle.lookups.proofs.Living.{there-live, below-live}
+use Rattle.acts.specs.Acted.{Did}
 use Rattle.acts.proofs.Accessed.{sound-in}
 use Rattle.acts.proofs.Allowed.{start-may, read-may, write-may, prepare-object, prepare-live, prepare-room, save-object, commit-live, commit-room, abort-live, settle-object, crash-set, look-object}
 use Rattle.acts.proofs.Answered.{did}
@@ -38,9 +41,17 @@ sound-at c = sound-in (c .args .words .now) (c .pre .0)
 unchanged : (c : tie.Start) → c .args .words .now ≡ pack (tables c)
 unchanged c = sym (words-again (c .args .words .now) (c .pre .0))
 
+-- the call's kind is the arm's
+for : (c : tie.Start) {k : calls.Kind} → c .args .c .kind ≡ k → {r : ℕ} {vs : List ℕ} → r ≡ done-value (kind-of k) (tables c) (asked c)
+    → vs ≡ pack (done-leaves (kind-of k) (tables c) (asked c)) → Did (c .args .words .now) (asked c) r vs
+for c {k} e {r} {vs} = did (c .args .words .now) (asked c) (kind-of k) (ap kind-of e) r vs
+
 -- where the transaction is live, the place is one
 at-place : (c : tie.Start) → T (is-live (tables c .live) (asked c .who)) → c .args .p < place-count
-at-place c live = omega (arith, c .pre .2 live, live-at (tables c .live) (asked c .who) live .below)
+at-place c = below-live (tables c .live) (asked c .who) (c .args .p) (c .pre .2)
+
+there : (c : tie.Start) → T (is-live (tables c .live) (asked c .who)) → c .args .p ≡ place-of (tables c .live) (asked c .who)
+there c = there-live (tables c .live) (asked c .who) (c .args .p) (c .pre .2)
 
 looked : (c : tie.Start) → kind c ≡ is-look → asked c .what .num < object-count
 looked c e = look-object (tables c) (asked c) (sound-at c) e (c .pre .1)
@@ -63,7 +74,7 @@ read-requires c κs =
     let start : tie.Start = c .before .before .before .before .before .before in
     let e : kind start ≡ is-read = ap kind-of (c .before .enum-told2 .given .1) in
     let may = read-may (tables start) (asked start) (sound-at start) e (start .pre .1) in
-    (start .pre .0, may, start .pre .2 (may .live))
+    (start .pre .0, may, there start (may .live))
 
 enum-told-3 : tie.Need-enum-told-3
 enum-told-3 c = search needs
@@ -73,7 +84,7 @@ write-requires c κs =
     let start : tie.Start = c .before .before .before .before .before .before in
     let e : kind start ≡ is-write = ap kind-of (c .before .enum-told3 .given .1) in
     let may = write-may (tables start) (asked start) (sound-at start) e (start .pre .1) in
-    (start .pre .0, may, start .pre .2 (may .live))
+    (start .pre .0, may, there start (may .live))
 
 enum-told-4 : tie.Need-enum-told-4
 enum-told-4 c = search needs
@@ -86,7 +97,7 @@ prepare-requires c κs =
       start .pre .0,
       prepare-object (tables start) (asked start) (sound-at start) e (start .pre .1),
       live,
-      start .pre .2 live,
+      there start live,
       prepare-room (tables start) (asked start) e (start .pre .1),
     )
 
@@ -107,7 +118,7 @@ commit-requires c κs =
     let start : tie.Start = c .before .before .before .before .before .before in
     let e : kind start ≡ is-commit = ap kind-of (c .before .enum-told6 .given .1) in
     let live = commit-live (tables start) (asked start) e (start .pre .1) in
-    (start .pre .0, live, start .pre .2 live, commit-room (tables start) (asked start) e (start .pre .1))
+    (start .pre .0, live, there start live, commit-room (tables start) (asked start) e (start .pre .1))
 
 enum-told-7 : tie.Need-enum-told-7
 enum-told-7 c = search needs
@@ -166,8 +177,7 @@ same-length c = search needs
 returns : tie.Need-returns
 unfolding done-value done-leaves
 returns c =
-    let start : tie.Start = c .before .before .before .before .before .before .before .before .before in
-    did (start .args .words .now) (asked start) is-start (ap kind-of (c .before .before .before .before .enum-told .given .1)) _ _ (ap (λ (x : Txn). x .num) (c .before .before .start .ensures .0)) (c .before .before .start .ensures .1)
+    for (c .before .before .before .before .before .before .before .before .before) (c .before .before .before .before .enum-told .given .1) (ap (λ (x : Txn). x .num) (c .before .before .start .ensures .0)) (c .before .before .start .ensures .1)
 
 same-length-2 : tie.Need-same-length-2
 same-length-2 c = search needs
@@ -175,8 +185,7 @@ same-length-2 c = search needs
 returns-2 : tie.Need-returns-2
 unfolding done-value done-leaves
 returns-2 c =
-    let start : tie.Start = c .before .before .before .before .before .before .before .before .before in
-    did (start .args .words .now) (asked start) is-read (ap kind-of (c .before .before .before .before .enum-told2 .given .1)) _ _ (c .before .before .read .ensures .0) (c .before .before .read .ensures .1)
+    for (c .before .before .before .before .before .before .before .before .before) (c .before .before .before .before .enum-told2 .given .1) (c .before .before .read .ensures .0) (c .before .before .read .ensures .1)
 
 same-length-3 : tie.Need-same-length-3
 same-length-3 c = search needs
@@ -184,8 +193,7 @@ same-length-3 c = search needs
 returns-3 : tie.Need-returns-3
 unfolding done-value done-leaves
 returns-3 c =
-    let start : tie.Start = c .before .before .before .before .before .before .before .before .before in
-    did (start .args .words .now) (asked start) is-write (ap kind-of (c .before .before .before .before .enum-told3 .given .1)) _ _ (refl) (c .before .before .write .ensures)
+    for (c .before .before .before .before .before .before .before .before .before) (c .before .before .before .before .enum-told3 .given .1) refl (c .before .before .write .ensures)
 
 same-length-4 : tie.Need-same-length-4
 same-length-4 c = search needs
@@ -193,8 +201,7 @@ same-length-4 c = search needs
 returns-4 : tie.Need-returns-4
 unfolding done-value done-leaves
 returns-4 c =
-    let start : tie.Start = c .before .before .before .before .before .before .before .before .before in
-    did (start .args .words .now) (asked start) is-prepare (ap kind-of (c .before .before .before .before .enum-told4 .given .1)) _ _ (refl) (c .before .before .prepare .ensures)
+    for (c .before .before .before .before .before .before .before .before .before) (c .before .before .before .before .enum-told4 .given .1) refl (c .before .before .prepare .ensures)
 
 same-length-5 : tie.Need-same-length-5
 same-length-5 c = search needs
@@ -202,8 +209,7 @@ same-length-5 c = search needs
 returns-5 : tie.Need-returns-5
 unfolding done-value done-leaves
 returns-5 c =
-    let start : tie.Start = c .before .before .before .before .before .before .before .before .before in
-    did (start .args .words .now) (asked start) is-save (ap kind-of (c .before .before .before .before .enum-told5 .given .1)) _ _ (c .before .before .save .ensures .0) (c .before .before .save .ensures .1)
+    for (c .before .before .before .before .before .before .before .before .before) (c .before .before .before .before .enum-told5 .given .1) (c .before .before .save .ensures .0) (c .before .before .save .ensures .1)
 
 same-length-6 : tie.Need-same-length-6
 same-length-6 c = search needs
@@ -211,8 +217,7 @@ same-length-6 c = search needs
 returns-6 : tie.Need-returns-6
 unfolding done-value done-leaves
 returns-6 c =
-    let start : tie.Start = c .before .before .before .before .before .before .before .before .before in
-    did (start .args .words .now) (asked start) is-commit (ap kind-of (c .before .before .before .before .enum-told6 .given .1)) _ _ (ap (λ (n : Lsn). n .num) (c .before .before .commit .ensures .0)) (c .before .before .commit .ensures .1)
+    for (c .before .before .before .before .before .before .before .before .before) (c .before .before .before .before .enum-told6 .given .1) (ap (λ (n : Lsn). n .num) (c .before .before .commit .ensures .0)) (c .before .before .commit .ensures .1)
 
 same-length-7 : tie.Need-same-length-7
 same-length-7 c = search needs
@@ -221,12 +226,12 @@ returns-7 : tie.Need-returns-7
 unfolding done-value done-leaves fall-count abort
 returns-7 c =
     let start : tie.Start = c .before .before .before .before .before .before .before .before .before in
-    let e : kind start ≡ is-abort = ap kind-of (c .before .before .before .before .enum-told7 .given .1) in
-    let there = start .pre .2 (abort-live (tables start) (asked start) e (start .pre .1)) in
+    let told = c .before .before .before .before .enum-told7 .given .1 in
+    let at = there start (abort-live (tables start) (asked start) (ap kind-of told) (start .pre .1)) in
     let ls = tables start .live in
-    did (start .args .words .now) (asked start) is-abort e _ _
-    (c .before .before .fall .ensures .0 ∙ ap (λ (p : ℕ). how-many (fallen ls p)) there)
-    (c .before .before .fall .ensures .1 ∙ ap (λ (p : ℕ). pack (undo (tables start) (fallen ls p))) there)
+    for start told
+    (c .before .before .fall .ensures .0 ∙ ap (λ (p : ℕ). how-many (fallen ls p)) at)
+    (c .before .before .fall .ensures .1 ∙ ap (λ (p : ℕ). pack (undo (tables start) (fallen ls p))) at)
 
 same-length-8 : tie.Need-same-length-8
 same-length-8 c = search needs
@@ -234,8 +239,7 @@ same-length-8 c = search needs
 returns-8 : tie.Need-returns-8
 unfolding done-value done-leaves
 returns-8 c =
-    let start : tie.Start = c .before .before .before .before .before .before .before .before .before in
-    did (start .args .words .now) (asked start) is-settle (ap kind-of (c .before .before .before .before .enum-told8 .given .1)) _ _ (c .before .before .settle .ensures .0) (c .before .before .settle .ensures .1)
+    for (c .before .before .before .before .before .before .before .before .before) (c .before .before .before .before .enum-told8 .given .1) (c .before .before .settle .ensures .0) (c .before .before .settle .ensures .1)
 
 same-length-9 : tie.Need-same-length-9
 same-length-9 c = search needs
@@ -243,8 +247,7 @@ same-length-9 c = search needs
 returns-9 : tie.Need-returns-9
 unfolding done-value done-leaves
 returns-9 c =
-    let start : tie.Start = c .before .before .before .before .before .before .before .before .before in
-    did (start .args .words .now) (asked start) is-crash (ap kind-of (c .before .before .before .before .enum-told9 .given .1)) _ _ (c .before .before .crash .ensures .0) (c .before .before .crash .ensures .1)
+    for (c .before .before .before .before .before .before .before .before .before) (c .before .before .before .before .enum-told9 .given .1) (c .before .before .crash .ensures .0) (c .before .before .crash .ensures .1)
 
 same-length-10 : tie.Need-same-length-10
 same-length-10 c = search needs
@@ -252,8 +255,7 @@ same-length-10 c = search needs
 returns-10 : tie.Need-returns-10
 unfolding done-value done-leaves
 returns-10 c =
-    let start : tie.Start = c .before .before .before .before .before .before .before .before .before in
-    did (start .args .words .now) (asked start) is-restart (ap kind-of (c .before .before .before .before .enum-told10 .given .1)) _ _ (c .before .before .restart .ensures .0) (c .before .before .restart .ensures .1)
+    for (c .before .before .before .before .before .before .before .before .before) (c .before .before .before .before .enum-told10 .given .1) (c .before .before .restart .ensures .0) (c .before .before .restart .ensures .1)
 
 same-length-11 : tie.Need-same-length-11
 same-length-11 c = search needs
@@ -261,16 +263,15 @@ same-length-11 c = search needs
 returns-11 : tie.Need-returns-11
 unfolding done-value done-leaves
 returns-11 c =
-    let start : tie.Start = c .before .before .before .before .before .before .before in
-    did (start .args .words .now) (asked start) is-status (ap kind-of (c .before .before .enum-told11 .given .1)) _ _ (c .status .ensures) (unchanged start)
+    for (c .before .before .before .before .before .before .before) (c .before .before .enum-told11 .given .1) (c .status .ensures) (unchanged (c .before .before .before .before .before .before .before))
 
 returns-12 : tie.Need-returns-12
 unfolding done-value done-leaves look
 returns-12 c =
     let start : tie.Start = c .before .before .before .before .before .before in
-    let e : kind start ≡ is-look = ap kind-of (c .before .enum-told12 .given .1) in
-    did (start .args .words .now) (asked start) is-look e _ _
-    (sound-words-say (start .args .words .now) (start .pre .0) .column stable-value _ (looked start e)) (unchanged start)
+    let told = c .before .enum-told12 .given .1 in
+    for start told
+    (sound-words-say (start .args .words .now) (start .pre .0) .column stable-value _ (looked start (ap kind-of told))) (unchanged start)
 
 pub give-spec : {M : Type 1} → statement M
 give-spec =

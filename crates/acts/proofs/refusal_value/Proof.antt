@@ -10,15 +10,15 @@ use borrow.Author.Needs.{needs}
 use lib.Dec.{T}
 use Rattle.rules.specs.Tests.{lowest, least}
 use Rattle.rules.specs.Sets.{has}
-use Rattle.rules.specs.Tables.{Txn, Tables, object-count, place-count, place, is-live}
+use Rattle.rules.specs.Tables.{Txn, Tables, object-count, place-count, place, place-of, is-live}
 use Rattle.rules.specs.Answers.{Call, Refusal, no-longer-live, lost, wait, died, unprepared, unsaved, dependency-live, refusal-value, refusal}
 use Rattle.rules.specs.Layout.{unpack}
 use Rattle.words_laws.specs.Says.{depends}
 use Rattle.words_laws.specs.Words.{sound-words-say}
-use Rattle.sound_laws.specs.Live.{live-at}
 use Rattle.calls.specs.Meaning.{call-of}
 use Rattle.refusals.specs.Reasons.{reason-of}
 use Rattle.lookups.proofs.Fitting.{fitting}
+use Rattle.lookups.proofs.Living.{there-live, below-live}
 use Rattle.acts.specs.Acted.{is-open}
 use Rattle.acts.proofs.Ordered.{wait-object, died-object, unprepared-live, unsaved-live, dependency-live-live}
 use Rattle.acts.proofs.Reasons.{plain-value}
@@ -32,21 +32,24 @@ abbrev asked : tie.Start → Call
 asked c = call-of (c .args .c)
 
 -- the reason is the rules'
-is-reason : (c : tie.Start) (r : Refusal) → reason-of (c .args .d .why) ≡ some r → some r ≡ refusal (tables c) (asked c)
-is-reason c r e = sym e ∙ c .pre .1 .reason
+is-reason : (c : tie.Start) (r : Refusal) → reason-of (c .args .why) ≡ some r → some r ≡ refusal (tables c) (asked c)
+is-reason c r e = sym e ∙ c .pre .1
 
 -- where the transaction is live, the place is one
-at-place : (c : tie.Start) → T (is-live (tables c .live) (asked c .who)) → c .args .d .place < place-count
-at-place c live = omega (arith, c .pre .1 .at live, live-at (tables c .live) (asked c .who) live .below)
+at-place : (c : tie.Start) → T (is-live (tables c .live) (asked c .who)) → c .args .p < place-count
+at-place c = below-live (tables c .live) (asked c .who) (c .args .p) (c .pre .2)
 
-depends-place : (c : tie.After-enum-told6) → c .before .before .before .before .before .args .d .place < place-count
+there : (c : tie.Start) → T (is-live (tables c .live) (asked c .who)) → c .args .p ≡ place-of (tables c .live) (asked c .who)
+there c = there-live (tables c .live) (asked c .who) (c .args .p) (c .pre .2)
+
+depends-place : (c : tie.After-enum-told6) → c .before .before .before .before .before .args .p < place-count
 depends-place c =
     at-place (c .before .before .before .before .before)
     (dependency-live-live (tables (c .before .before .before .before .before)) (asked (c .before .before .before .before .before)) (is-reason (c .before .before .before .before .before) dependency-live (ap reason-of (c .enum-told6 .given .1))))
 
 -- there is one reason
-given-for : (c : tie.Start) (r : Refusal) → reason-of (c .args .d .why) ≡ some r → (v : ℕ) → v ≡ refusal-value r (tables c) (asked c)
-    → (q : Refusal) → reason-of (c .args .d .why) ≡ some q → (q ≡ lost → ⊥) → v ≡ refusal-value q (tables c) (asked c)
+given-for : (c : tie.Start) (r : Refusal) → reason-of (c .args .why) ≡ some r → (v : ℕ) → v ≡ refusal-value r (tables c) (asked c)
+    → (q : Refusal) → reason-of (c .args .why) ≡ some q → (q ≡ lost → ⊥) → v ≡ refusal-value q (tables c) (asked c)
 given-for c r a v h q e f =
     let same : r ≡ q = cc in
     subst (λ (p : Refusal). v ≡ refusal-value p (tables c) (asked c)) same h
@@ -85,7 +88,7 @@ enum-told-5 c = search needs
 first-unsaved-requires : tie.Need-first-unsaved-requires
 first-unsaved-requires c κs =
     let live = unsaved-live _ _ (is-reason (c .before .before .before .before .before) unsaved (ap reason-of (c .enum-told5 .given .1))) in
-    (c .before .before .before .before .before .pre .0, c .before .before .before .before .before .pre .1 .at live, at-place (c .before .before .before .before .before) live)
+    (c .before .before .before .before .before .pre .0, c .before .before .before .before .before .pre .2, at-place (c .before .before .before .before .before) live)
 
 enum-told-6 : tie.Need-enum-told-6
 enum-told-6 c = search needs
@@ -131,7 +134,7 @@ returns-4 c =
     let ls = unpack (start .args .words .now) .live in
     given-for start unprepared told _
     (c .first-unprepared .ensures
-    ∙ ap (λ (p : ℕ). lowest object-count (is-open (place ls p))) (start .pre .1 .at (unprepared-live _ _ (is-reason start unprepared told))))
+    ∙ ap (λ (p : ℕ). lowest object-count (is-open (place ls p))) (there start (unprepared-live _ _ (is-reason start unprepared told))))
 
 returns-5 : tie.Need-returns-5
 unfolding refusal-value
@@ -151,12 +154,12 @@ returns-6 c =
     given-for start dependency-live told _
     (c .lowest-number .ensures
     ∙ ap (λ (d : ℕ). least place-count (λ q. cond (has d q) (place ls q .number .num) 0))
-    (sound-words-say ws (start .pre .0) .column depends _ (at-place start live) ∙ ap (λ (p : ℕ). place ls p .depends) (start .pre .1 .at live)))
+    (sound-words-say ws (start .pre .0) .column depends _ (at-place start live) ∙ ap (λ (p : ℕ). place ls p .depends) (there start live)))
 
 returns-7 : tie.Need-returns-7
 returns-7 c =
     let start : tie.Start = c .before .before .before .before in
-    plain-value (start .args .d .why) (c .match .keys7) (unpack (start .args .words .now)) (call-of (start .args .c))
+    plain-value (start .args .why) (c .match .keys7) (unpack (start .args .words .now)) (call-of (start .args .c))
 
 pub refusal-value-spec : {M : Type 1} → statement M
 refusal-value-spec =

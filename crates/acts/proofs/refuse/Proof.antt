@@ -8,20 +8,20 @@ use Prim.Native.Nat.{ℕ, _<_}
 use native.Mathlib.Omega.{arith}
 use borrow.Author.Needs.{needs}
 use lib.Dec.{T}
-use Rattle.rules.specs.Tables.{Tables, place-count, is-live}
+use Rattle.rules.specs.Tables.{Tables, place-count, place-of, is-live}
 use Rattle.rules.specs.Falls.{fallen, how-many}
 use Rattle.rules.specs.Steps.{undo, abort, fall-count}
 use Rattle.rules.specs.Answers.{Call, Refusal, lost, died, refusal-value, refusal-leaves, refusal}
 use Rattle.rules.specs.Layout.{pack, unpack}
 use Rattle.answers_laws.specs.Exactly.{refusal-leaves-same}
 use Rattle.words_laws.specs.Words.{words-again}
-use Rattle.sound_laws.specs.Live.{live-at}
 use Rattle.calls.specs.Meaning.{call-of}
+use Rattle.lookups.proofs.Living.{there-live, below-live}
 use Rattle.refusals.specs.Reasons.{reason-of}
+use Rattle.refusals.proofs.Whys.{passed-over}
 use Rattle.acts.specs.Acted.{number-or}
 use Rattle.acts.proofs.Answered.{refused-acts}
 use Rattle.acts.proofs.Ordered.{lost-live, died-live}
-use Rattle.acts.proofs.Reasons.{passed-over}
 use Rattle.acts.proofs.refuse.Statement.{statement}
 use Rattle.acts.proofs.refuse.Tie as tie
 
@@ -32,12 +32,15 @@ abbrev asked : tie.Start → Call
 asked c = call-of (c .args .c)
 
 -- the reason is the rules'
-is-reason : (c : tie.Start) (r : Refusal) → reason-of (c .args .d .why) ≡ some r → some r ≡ refusal (tables c) (asked c)
-is-reason c r e = sym e ∙ c .pre .1 .reason
+is-reason : (c : tie.Start) (r : Refusal) → reason-of (c .args .why) ≡ some r → some r ≡ refusal (tables c) (asked c)
+is-reason c r e = sym e ∙ c .pre .1
 
 -- where the transaction is live, the place is one
-at-place : (c : tie.Start) → T (is-live (tables c .live) (asked c .who)) → c .args .d .place < place-count
-at-place c live = omega (arith, c .pre .1 .at live, live-at (tables c .live) (asked c .who) live .below)
+at-place : (c : tie.Start) → T (is-live (tables c .live) (asked c .who)) → c .args .p < place-count
+at-place c = below-live (tables c .live) (asked c .who) (c .args .p) (c .pre .2)
+
+there : (c : tie.Start) → T (is-live (tables c .live) (asked c .who)) → c .args .p ≡ place-of (tables c .live) (asked c .who)
+there c = there-live (tables c .live) (asked c .who) (c .args .p) (c .pre .2)
 
 some-reason : (o : Option Refusal) → (o ≡ none → ⊥) → (q : Refusal) × (o ≡ some q)
 some-reason none f = absurd (f refl)
@@ -84,12 +87,12 @@ returns c =
     let start : tie.Start = c .before .before .before .before .before .before .before .before in
     let told = ap reason-of (c .before .before .before .before .enum-told .given .1) in
     let reason = is-reason start lost told in
-    let there = start .pre .1 .at (lost-live (tables start) (asked start) reason) in
+    let at = there start (lost-live (tables start) (asked start) reason) in
     let ls = tables start .live in
     refused-acts (start .args .words .now) (asked start) _ _ lost reason
     (c .before .before .before .before .before .before .refusal-number .ensures ∙ ap number-or told)
-    (c .before .before .fall .ensures .0 ∙ ap (λ (p : ℕ). how-many (fallen ls p)) there)
-    (c .before .before .fall .ensures .1 ∙ ap (λ (p : ℕ). pack (undo (tables start) (fallen ls p))) there)
+    (c .before .before .fall .ensures .0 ∙ ap (λ (p : ℕ). how-many (fallen ls p)) at)
+    (c .before .before .fall .ensures .1 ∙ ap (λ (p : ℕ). pack (undo (tables start) (fallen ls p))) at)
 
 same-length-2 : tie.Need-same-length-2
 same-length-2 c = search needs
@@ -100,11 +103,11 @@ returns-2 c =
     let start : tie.Start = c .before .before .before .before .before .before .before .before .before .before in
     let told = ap reason-of (c .before .before .before .before .before .before .enum-told2 .given .1) in
     let reason = is-reason start died told in
-    let there = start .pre .1 .at (died-live (tables start) (asked start) reason) in
+    let at = there start (died-live (tables start) (asked start) reason) in
     refused-acts (start .args .words .now) (asked start) _ _ died reason
     (c .before .before .before .before .before .before .before .before .refusal-number .ensures ∙ ap number-or told)
     (c .before .before .before .before .refusal-value .ensures died told died-not-lost)
-    (c .before .before .fall2 .ensures .1 ∙ ap (λ (p : ℕ). pack (undo (tables start) (fallen (tables start .live) p))) there)
+    (c .before .before .fall2 .ensures .1 ∙ ap (λ (p : ℕ). pack (undo (tables start) (fallen (tables start .live) p))) at)
 
 same-length-3 : tie.Need-same-length-3
 same-length-3 c = search needs
@@ -113,9 +116,9 @@ returns-3 : tie.Need-returns-3
 returns-3 c =
     let start : tie.Start = c .before .before .before .before .before in
     let one = c .before .before .match .keys3 in
-    let (q, told) = some-reason (reason-of (start .args .d .why)) (start .pre .2) in
-    let not-lost : q ≡ lost → ⊥ = λ e. passed-over others (start .args .d .why) (some lost) one tt (told ∙ ap some e) in
-    let not-died : q ≡ died → ⊥ = λ e. passed-over others (start .args .d .why) (some died) one tt (told ∙ ap some e) in
+    let (q, told) = some-reason (reason-of (start .args .why)) (start .pre .3) in
+    let not-lost : q ≡ lost → ⊥ = λ e. passed-over others (start .args .why) (some lost) one tt (told ∙ ap some e) in
+    let not-died : q ≡ died → ⊥ = λ e. passed-over others (start .args .why) (some died) one tt (told ∙ ap some e) in
     refused-acts (start .args .words .now) (asked start) _ _ q (is-reason start q told)
     (c .before .before .before .refusal-number .ensures ∙ ap number-or told)
     (c .refusal-value2 .ensures q told not-lost)
