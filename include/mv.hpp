@@ -139,26 +139,57 @@ inline constexpr std::size_t kWords = MV_WORDS;
 template <class Words>
 class Calls {
 public:
+    // Each comment says what a done call gives and what may refuse it; a call on words that are not sound gets unsound, and
+    // every refusal but lost and died leaves all words as they were.
+
+    // Makes the words fresh, whatever they held. Only a wrong count of words is refused.
     Answer fresh() noexcept { return Answer{mv_fresh(at(), count())}; }
+
+    // A new transaction: txn(). Refused: numbers_spent, places_full.
     Answer start() noexcept { return Answer{mv_start(at(), count())}; }
+
+    // The object's value, with its lock and a dependency on whoever wrote the latest version, if that one is live. Refused:
+    // no_such_object, never_given_out, no_longer_live, after_a_prepare, lost, wait, died.
     Answer read(Txn txn, Obj object) noexcept { return Answer{mv_read(at(), count(), txn.num, object.num)}; }
+
+    // Another value, with the lock and the dependency of a read, read or not. Refused: as read.
     Answer write(Txn txn, Obj object, std::uint64_t value) noexcept {
         return Answer{mv_write(at(), count(), txn.num, object.num, value)};
     }
+
+    // Frees the lock, and queues what was written. Refused: no_such_object, never_given_out, no_longer_live, not_accessed,
+    // prepared_before, lost, chain_full.
     Answer prepare(Txn txn, Obj object) noexcept { return Answer{mv_prepare(at(), count(), txn.num, object.num)}; }
+
+    // Says that what is queued is on storage: count(). Refused: no_such_object.
     Answer save(Obj object) noexcept { return Answer{mv_save(at(), count(), object.num)}; }
+
+    // A log record: lsn(). Refused: never_given_out, no_longer_live, unprepared, lost, unsaved, dependency_live, log_full.
     Answer commit(Txn txn) noexcept { return Answer{mv_commit(at(), count(), txn.num)}; }
+
+    // Undoes the transaction with all that depend on it: count(). Refused: never_given_out, no_longer_live.
     Answer abort(Txn txn) noexcept { return Answer{mv_abort(at(), count(), txn.num)}; }
+
+    // Moves committed versions out of the object's chain: count(). Refused: no_such_object.
     Answer settle(Obj object) noexcept { return Answer{mv_settle(at(), count(), object.num)}; }
+
+    // What a stop of these objects' server loses, locks and queued versions: count(). Refused: no_such_object.
     Answer crash(ObjSet objects) noexcept { return Answer{mv_crash(at(), count(), objects.bits)}; }
+
+    // What a stop of the whole host leaves, the durable parts, settled: count() of those that were live.
     Answer restart() noexcept { return Answer{mv_restart(at(), count())}; }
+
+    // What became of a transaction: status(). Refused: never_given_out.
     Answer status(Txn txn) noexcept { return Answer{mv_status(at(), count(), txn.num)}; }
+
+    // The object's stable value. Refused: no_such_object.
     Answer look(Obj object) noexcept { return Answer{mv_look(at(), count(), object.num)}; }
 
-    // One line with its line feed.
+    // One line with its line feed, answered as its call is. Refused: bad_frame, before all else.
     Answer line(std::string_view text) noexcept { return Answer{mv_line(at(), count(), bytes(text), text.size())}; }
 
-    // Many lines; the room has MV_ANSWER_LINE bytes for each answer line.
+    // Many lines, with one test of the words: count() of those answered. The room has MV_ANSWER_LINE bytes for each answer
+    // line, and takes as many as fit.
     Answer run(std::string_view calls, char* room, std::size_t room_size) noexcept {
         std::uint8_t none = 0;
         std::uint8_t* const to = room ? reinterpret_cast<std::uint8_t*>(room) : &none;
