@@ -14,7 +14,7 @@ import tempfile
 ROOT = pathlib.Path(__file__).resolve().parent.parent
 SOURCE = ROOT / "crates/maruvoog/src/lib.rt"
 ANSWERS = ROOT / "crates/rules/specs/Answers.antt"
-LAYOUT = ROOT / "crates/tables/src/layout.rt"
+LAYOUT = ROOT / "crates/layout/src/lib.rt"
 FRAMES = {"MV_CALL_LINE": 29, "MV_ANSWER_LINE": 19}
 
 C_TYPES = {

@@ -37,7 +37,9 @@ fn status(words: &[u64], x: Txn, p: usize) -> u64
         return 1;
     }
     let number = lookups::log_number(words, x);
-    let last = Lsn { num: words[1] };
+    let last = Lsn {
+        num: words[layout::LOG_COUNT],
+    };
     if number.num <= last.num { 2 } else { 3 }
 }
 
@@ -61,7 +63,7 @@ fn number_among(words: &[u64], places: u64, p: u64) -> Txn
 {
     if sets::has(places, p) {
         Txn {
-            num: words[514 + p as usize],
+            num: words[layout::NUMBER + p as usize],
         }
     } else {
         Txn { num: 0 }
@@ -86,7 +88,7 @@ fn first_unprepared(words: &[u64], p: usize) -> Obj
     requires { ⌜ T (sound-words (now words)) × (p < place-count) ⌝ }
     ensures { λ r. ⌜ r .num ≡ lowest object-count (is-open (place (unpack (now (words .entry)) .live) p)) ⌝ }
 {
-    let open = (words[546 + p] - words[610 + p]) as u32;
+    let open = (words[layout::ACCESSED + p] - words[layout::PREPARED + p]) as u32;
     Obj {
         num: sets::lowest(open) as usize,
     }
@@ -169,7 +171,7 @@ fn refusal_value(words: &[u64], c: Call, why: Why, p: usize) -> u64
         Why::Died => lookups::holder(words, o).num,
         Why::Unprepared => first_unprepared(words, p).num as u64,
         Why::Unsaved => refusals::first_unsaved(words, x, p).num as u64,
-        Why::DependencyLive => lowest_number(words, words[642 + p]).num,
+        Why::DependencyLive => lowest_number(words, words[layout::DEPENDS + p]).num,
         _ => 0,
     }
 }
@@ -210,7 +212,9 @@ fn start(words: &mut [u64]) -> Txn
     requires { ⌜ T (sound-words (now words)) × (unpack (now words) .next .num ≤ last-number) × (0 < free-places (unpack (now words))) ⌝ }
     ensures { λ r. ⌜ (txn-of r ≡ unpack (now (words .entry)) .next) × (now (words .exit) ≡ pack (started (unpack (now (words .entry))))) ⌝ }
 {
-    let next = Txn { num: words[0] };
+    let next = Txn {
+        num: words[layout::NEXT],
+    };
     locks::start(words);
     next
 }
@@ -221,7 +225,7 @@ fn access(words: &mut [u64], x: Txn, p: usize, o: Obj)
     ensures { λ r. ⌜ now (words .exit) ≡ pack (accessed (unpack (now (words .entry))) (txn-of x) (obj-of o)) ⌝ }
 {
     let i = o.num;
-    if !sets::has(words[546 + p], i as u64) {
+    if !sets::has(words[layout::ACCESSED + p], i as u64) {
         locks::lock(words, x, p, o);
     }
 }
@@ -233,7 +237,7 @@ fn read(words: &mut [u64], x: Txn, p: usize, o: Obj) -> u64
 {
     let i = o.num;
     access(words, x, p, o);
-    words[802 + i]
+    words[layout::WORKING + i]
 }
 
 // Sets the working value.
@@ -250,7 +254,9 @@ fn commit(words: &mut [u64], x: Txn, p: usize) -> Lsn
     requires { ⌜ T (sound-words (now words)) × T (is-live-in (unpack (now words) .live) (txn-of x)) × (p ≡ place-of (unpack (now words) .live) (txn-of x)) × (length (unpack (now words) .log) < log-room) ⌝ }
     ensures { λ r. ⌜ (lsn-of r ≡ lsn (suc (length (unpack (now (words .entry)) .log)))) × (now (words .exit) ≡ pack (committed (unpack (now (words .entry))) (txn-of x))) ⌝ }
 {
-    let number = Lsn { num: words[1] + 1 };
+    let number = Lsn {
+        num: words[layout::LOG_COUNT] + 1,
+    };
     ends::commit(words, x, p);
     number
 }
@@ -283,7 +289,7 @@ fn give(words: &mut [u64], c: Call, p: usize) -> u64
         Kind::Crash => ends::crash(words, v),
         Kind::Restart => ends::restart(words),
         Kind::Status => status(words, x, p),
-        Kind::Look => words[674 + i],
+        Kind::Look => words[layout::STABLE_VALUE + i],
     }
 }
 

@@ -31,10 +31,10 @@ fn fresh_log(words: &mut [u64])
     ensures { λ r. ⌜ OneFirst (now (words .exit)) 514 ⌝ }
 {
     let log = [0u64; 512];
-    words[0] = 1;
-    words[1] = 0;
+    words[layout::NEXT] = 1;
+    words[layout::LOG_COUNT] = 0;
     for i in 0..512 {
-        words[2 + i] = log[i];
+        words[layout::LOG + i] = log[i];
     }
 }
 
@@ -64,9 +64,9 @@ fn add_record(words: &mut [u64], x: Txn)
     requires { ⌜ (length (now words) ≡ word-count) × (word (now words) log-count-at < log-room) ⌝ }
     ensures { λ r. ⌜ now (words .exit) ≡ record-added (x .num) (now (words .entry)) ⌝ }
 {
-    let count = words[1];
-    words[2 + count as usize] = x.num;
-    words[1] = count + 1;
+    let count = words[layout::LOG_COUNT];
+    words[layout::LOG + count as usize] = x.num;
+    words[layout::LOG_COUNT] = count + 1;
 }
 
 // Strikes place p from the dependencies of place q.
@@ -75,7 +75,7 @@ fn strike(words: &mut [u64], p: usize, q: usize)
         × (word (now words) (depends-at + q) < 2 ^ width) ⌝ }
     ensures { λ r. ⌜ now (words .exit) ≡ struck p q (now (words .entry)) ⌝ }
 {
-    words[642 + q] = sets::without(words[642 + q], p as u64);
+    words[layout::DEPENDS + q] = sets::without(words[layout::DEPENDS + q], p as u64);
 }
 
 // Strikes place p from all dependencies.
@@ -94,11 +94,11 @@ fn free_place(words: &mut [u64], p: usize)
     requires { ⌜ (length (now words) ≡ word-count) × (p < place-count) ⌝ }
     ensures { λ r. ⌜ now (words .exit) ≡ free-words p (now (words .entry)) ⌝ }
 {
-    words[514 + p] = 0;
-    words[546 + p] = 0;
-    words[578 + p] = 0;
-    words[610 + p] = 0;
-    words[642 + p] = 0;
+    words[layout::NUMBER + p] = 0;
+    words[layout::ACCESSED + p] = 0;
+    words[layout::WRITTEN + p] = 0;
+    words[layout::PREPARED + p] = 0;
+    words[layout::DEPENDS + p] = 0;
 }
 
 // Adds the next log record for the transaction x at place p, frees the place, strikes it from all dependency sets.
@@ -163,8 +163,8 @@ fn crash_object(words: &mut [u64], objects: u64, o: Obj) -> u64
 {
     let i = o.num;
     if sets::has(objects, i as u64) {
-        let saved = words[834 + i];
-        let dropped = words[866 + i];
+        let saved = words[layout::SAVED_COUNT + i];
+        let dropped = words[layout::QUEUED_COUNT + i];
         objects::keep_saved(words, o, saved);
         dropped
     } else {
@@ -210,7 +210,7 @@ fn used(words: &[u64], p: usize) -> u64
     requires { ⌜ (length (now words) ≡ word-count) × (p < place-count) ⌝ }
     ensures { λ r. ⌜ r ≡ cond (not (eqb (word (now (words .entry)) (number-at + p)) 0)) 1 0 ⌝ }
 {
-    if words[514 + p] == 0 { 0 } else { 1 }
+    if words[layout::NUMBER + p] == 0 { 0 } else { 1 }
 }
 
 // How many places are used.

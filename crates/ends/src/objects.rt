@@ -28,7 +28,7 @@ fn holder(words: &[u64], o: Obj) -> Txn
 {
     let i = o.num;
     Txn {
-        num: words[770 + i],
+        num: words[layout::HOLDER + i],
     }
 }
 
@@ -39,7 +39,7 @@ pub fn writer_at(words: &[u64], o: Obj, j: usize) -> Txn
 {
     let i = o.num;
     Txn {
-        num: words[1154 + (8 * i + j)],
+        num: words[layout::CHAIN_WRITER + (8 * i + j)],
     }
 }
 
@@ -92,7 +92,7 @@ fn unlock(words: &mut [u64], o: Obj)
     ensures { λ r. ⌜ now (words .exit) ≡ unlocked-words (o .num) (now (words .entry)) ⌝ }
 {
     let i = o.num;
-    put_two(words, 770 + i, 0, 802 + i, 0);
+    put_two(words, layout::HOLDER + i, 0, layout::WORKING + i, 0);
 }
 
 // Sets entry j of object o's chain.
@@ -102,7 +102,13 @@ fn set_entry(words: &mut [u64], o: Obj, j: usize, value: u64, writer: Txn)
 {
     let i = o.num;
     let at = 8 * i + j;
-    put_two(words, 898 + at, value, 1154 + at, writer.num);
+    put_two(
+        words,
+        layout::CHAIN_VALUE + at,
+        value,
+        layout::CHAIN_WRITER + at,
+        writer.num,
+    );
 }
 
 // Clears the entries of object o's chain from n on.
@@ -121,7 +127,13 @@ fn trim(words: &mut [u64], o: Obj, saved: u64, queued: u64)
     ensures { λ r. ⌜ now (words .exit) ≡ trimmed (o .num) saved queued (now (words .entry)) ⌝ }
 {
     let i = o.num;
-    put_two(words, 834 + i, saved, 866 + i, queued);
+    put_two(
+        words,
+        layout::SAVED_COUNT + i,
+        saved,
+        layout::QUEUED_COUNT + i,
+        queued,
+    );
     clear(words, o, (saved + queued) as usize);
 }
 
@@ -155,8 +167,8 @@ fn cut_chain(words: &mut [u64], o: Obj, n: u64)
     ensures { λ r. ⌜ now (words .exit) ≡ chain-cut (o .num) n (now (words .entry)) ⌝ }
 {
     let i = o.num;
-    let saved = lower(words[834 + i], n);
-    let queued = lower(words[866 + i], n - saved);
+    let saved = lower(words[layout::SAVED_COUNT + i], n);
+    let queued = lower(words[layout::QUEUED_COUNT + i], n - saved);
     trim(words, o, saved, queued);
 }
 
@@ -166,7 +178,7 @@ fn no_entries(words: &[u64], o: Obj) -> bool
     ensures { λ r. ⌜ r ≡ no-entries-in (now (words .entry)) (o .num) ⌝ }
 {
     let i = o.num;
-    words[834 + i] == 0 && words[866 + i] == 0
+    words[layout::SAVED_COUNT + i] == 0 && words[layout::QUEUED_COUNT + i] == 0
 }
 
 // Those at the places f lose object o's chain from the first of them on.
@@ -201,7 +213,10 @@ pub fn settle_number(words: &[u64], o: Obj) -> u64
 {
     let i = o.num;
     let all_places = 4_294_967_295;
-    lower(words[834 + i], first_fall(words, all_places, o) as u64)
+    lower(
+        words[layout::SAVED_COUNT + i],
+        first_fall(words, all_places, o) as u64,
+    )
 }
 
 // Moves the entries of object o's chain down by k.
@@ -212,7 +227,7 @@ fn slide(words: &mut [u64], o: Obj, k: usize)
     let i = o.num;
     let left = 8 - k;
     for j in 0..left {
-        let value = words[898 + (8 * i + (j + k))];
+        let value = words[layout::CHAIN_VALUE + (8 * i + (j + k))];
         let writer = writer_at(words, o, j + k);
         set_entry(words, o, j, value, writer);
     }
@@ -225,13 +240,13 @@ fn put_stable(words: &mut [u64], o: Obj, k: usize, n: Lsn)
     ensures { λ r. ⌜ now (words .exit) ≡ stable-put (o .num) k (n .num) (now (words .entry)) ⌝ }
 {
     let i = o.num;
-    let value = words[898 + (8 * i + (k - 1))];
+    let value = words[layout::CHAIN_VALUE + (8 * i + (k - 1))];
     let writer = writer_at(words, o, k - 1);
-    let saved = words[834 + i];
-    words[674 + i] = value;
-    words[706 + i] = writer.num;
-    words[738 + i] = n.num;
-    words[834 + i] = saved - k as u64;
+    let saved = words[layout::SAVED_COUNT + i];
+    words[layout::STABLE_VALUE + i] = value;
+    words[layout::STABLE_WRITER + i] = writer.num;
+    words[layout::STABLE_NUMBER + i] = n.num;
+    words[layout::SAVED_COUNT + i] = saved - k as u64;
 }
 
 // Entry k - 1 of object o becomes its stable version, under the log number n; its first k entries leave.

@@ -13,43 +13,17 @@ ghost use Rattle.locks_laws.specs.Left.{depends-too};
 use calls::Obj;
 use calls::Txn;
 
-// Where the words stand that the steps read and write, of docs/LAYOUT.md: the next number.
-const NEXT: usize = 0;
-
-// The columns of the live transactions, a word for each place.
-const NUMBER: usize = 514;
-
-const ACCESSED: usize = 546;
-
-const WRITTEN: usize = 578;
-
-const PREPARED: usize = 610;
-
-const DEPENDS: usize = 642;
-
-// The columns of the objects, a word for each.
-const HOLDER: usize = 770;
-
-const WORKING: usize = 802;
-
-const SAVED_COUNT: usize = 834;
-
-const QUEUED_COUNT: usize = 866;
-
-// The chains, eight words for each object.
-const CHAIN_VALUE: usize = 898;
-
-const CHAIN_WRITER: usize = 1154;
-
 // Gives the next number to the lowest free place.
 pub fn start(words: &mut [u64])
     requires { ⌜ T (sound-words (now words)) × (unpack (now words) .next .num ≤ last-number) × (0 < free-places (unpack (now words))) ⌝ }
     ensures { λ r. ⌜ now (words .exit) ≡ pack (started (unpack (now (words .entry)))) ⌝ }
 {
     let p = sets::lowest(lookups::free_places(words)) as usize;
-    let x = Txn { num: words[NEXT] };
-    words[NUMBER + p] = x.num;
-    words[NEXT] = x.num + 1;
+    let x = Txn {
+        num: words[layout::NEXT],
+    };
+    words[layout::NUMBER + p] = x.num;
+    words[layout::NEXT] = x.num + 1;
 }
 
 // The dependencies d, and the place of the transaction y if y is live. Free places have the number 0, which names no one.
@@ -71,12 +45,12 @@ pub fn lock(words: &mut [u64], x: Txn, p: usize, o: Obj)
 {
     let i = o.num;
     let latest = lookups::latest(words, o);
-    let accessed = sets::with(words[ACCESSED + p], i as u64);
-    let depends = and_depends_on(words, words[DEPENDS + p], latest.writer);
-    words[HOLDER + i] = x.num;
-    words[WORKING + i] = latest.value;
-    words[ACCESSED + p] = accessed;
-    words[DEPENDS + p] = depends;
+    let accessed = sets::with(words[layout::ACCESSED + p], i as u64);
+    let depends = and_depends_on(words, words[layout::DEPENDS + p], latest.writer);
+    words[layout::HOLDER + i] = x.num;
+    words[layout::WORKING + i] = latest.value;
+    words[layout::ACCESSED + p] = accessed;
+    words[layout::DEPENDS + p] = depends;
 }
 
 // The working value of object o, which the transaction x at place p holds, set anew; the object is written.
@@ -85,9 +59,9 @@ pub fn set_working_value(words: &mut [u64], x: Txn, p: usize, o: Obj, v: u64)
     ensures { λ r. ⌜ now (words .exit) ≡ pack (set-working (unpack (now (words .entry))) (txn-of x) (obj-of o) v) ⌝ }
 {
     let i = o.num;
-    let written = sets::with(words[WRITTEN + p], i as u64);
-    words[WORKING + i] = v;
-    words[WRITTEN + p] = written;
+    let written = sets::with(words[layout::WRITTEN + p], i as u64);
+    words[layout::WORKING + i] = v;
+    words[layout::WRITTEN + p] = written;
 }
 
 // Frees the lock of object o, which the transaction x at place p holds, and queues the working value if it was written.
@@ -97,19 +71,19 @@ pub fn prepare(words: &mut [u64], x: Txn, p: usize, o: Obj)
     ensures { λ r. ⌜ now (words .exit) ≡ pack (prepared (unpack (now (words .entry))) (txn-of x) (obj-of o)) ⌝ }
 {
     let i = o.num;
-    let was_written = sets::has(words[WRITTEN + p], i as u64);
-    let prepared = sets::with(words[PREPARED + p], i as u64);
-    let value = words[WORKING + i];
-    let saved = words[SAVED_COUNT + i];
-    let queued = words[QUEUED_COUNT + i];
-    words[HOLDER + i] = 0;
-    words[WORKING + i] = 0;
-    words[PREPARED + p] = prepared;
+    let was_written = sets::has(words[layout::WRITTEN + p], i as u64);
+    let prepared = sets::with(words[layout::PREPARED + p], i as u64);
+    let value = words[layout::WORKING + i];
+    let saved = words[layout::SAVED_COUNT + i];
+    let queued = words[layout::QUEUED_COUNT + i];
+    words[layout::HOLDER + i] = 0;
+    words[layout::WORKING + i] = 0;
+    words[layout::PREPARED + p] = prepared;
     if was_written {
         let end = 8 * i + (saved + queued) as usize;
-        words[CHAIN_VALUE + end] = value;
-        words[CHAIN_WRITER + end] = x.num;
-        words[QUEUED_COUNT + i] = queued + 1;
+        words[layout::CHAIN_VALUE + end] = value;
+        words[layout::CHAIN_WRITER + end] = x.num;
+        words[layout::QUEUED_COUNT + i] = queued + 1;
     }
 }
 
@@ -119,9 +93,9 @@ pub fn save(words: &mut [u64], o: Obj) -> u64
     ensures { λ r. ⌜ (r ≡ length (object (unpack (now (words .entry))) (obj-of o) .queued)) × (now (words .exit) ≡ pack (saved (unpack (now (words .entry))) (obj-of o))) ⌝ }
 {
     let i = o.num;
-    let saved = words[SAVED_COUNT + i];
-    let queued = words[QUEUED_COUNT + i];
-    words[SAVED_COUNT + i] = saved + queued;
-    words[QUEUED_COUNT + i] = 0;
+    let saved = words[layout::SAVED_COUNT + i];
+    let queued = words[layout::QUEUED_COUNT + i];
+    words[layout::SAVED_COUNT + i] = saved + queued;
+    words[layout::QUEUED_COUNT + i] = 0;
     queued
 }

@@ -58,7 +58,7 @@ pub fn seat(words: &[u64], x: Txn) -> usize
     requires { ⌜ length (now words) ≡ word-count ⌝ }
     ensures { λ r. ⌜ r ≡ first-at (now (words .entry)) number-at place-count (x .num) ⌝ }
 {
-    scan(words, 514, 32, x.num)
+    scan(words, layout::NUMBER, layout::PLACES, x.num)
 }
 
 // The place of a live transaction, or 32 where it has none. The number 0 has the lowest free place.
@@ -85,9 +85,9 @@ pub fn log_number(words: &[u64], x: Txn) -> Lsn
     requires { ⌜ T (sound-words (now words)) ⌝ }
     ensures { λ r. ⌜ lsn-of r ≡ number-in (unpack (now (words .entry)) .log) (txn-of x) ⌝ }
 {
-    let count = words[1];
+    let count = words[layout::LOG_COUNT];
     // From the last record down: who is asked about has mostly just committed, and nobody has two records.
-    let last = scan_back(words, 2, count as usize, x.num) as u64;
+    let last = scan_back(words, layout::LOG, count as usize, x.num) as u64;
     let number = if last == 0 { 1 + count } else { last };
     Lsn { num: number }
 }
@@ -107,7 +107,7 @@ pub fn free_places(words: &[u64]) -> u32
 {
     let mut free: u64 = 0;
     for p in 0..32u64 {
-        free = and_place(free, p, words[514 + p as usize] == 0);
+        free = and_place(free, p, words[layout::NUMBER + p as usize] == 0);
     }
     free as u32
 }
@@ -130,7 +130,7 @@ pub fn holder(words: &[u64], o: Obj) -> Txn
 {
     let i = o.num;
     Txn {
-        num: words[770 + i],
+        num: words[layout::HOLDER + i],
     }
 }
 
@@ -140,12 +140,16 @@ pub fn latest(words: &[u64], o: Obj) -> Entry
     ensures { λ r. ⌜ entry-of r ≡ latest-of (object (unpack (now (words .entry))) (obj-of o)) ⌝ }
 {
     let i = o.num;
-    let count = (words[834 + i] + words[866 + i]) as usize;
+    let count = (words[layout::SAVED_COUNT + i] + words[layout::QUEUED_COUNT + i]) as usize;
     if count == 0 {
-        entry_at(words, 674 + i, 706 + i)
+        entry_at(words, layout::STABLE_VALUE + i, layout::STABLE_WRITER + i)
     } else {
         let last = 8 * i + (count - 1);
-        entry_at(words, 898 + last, 1154 + last)
+        entry_at(
+            words,
+            layout::CHAIN_VALUE + last,
+            layout::CHAIN_WRITER + last,
+        )
     }
 }
 
@@ -154,7 +158,7 @@ fn joins(words: &[u64], s: u64, p: u64) -> bool
     requires { ⌜ T (sound-words (now words)) × (s < 2 ^ width) × (p < place-count) ⌝ }
     ensures { λ r. ⌜ r ≡ joins-in (unpack (now (words .entry)) .live) s p ⌝ }
 {
-    sets::has(s, p) || sets::meets(words[642 + p as usize], s)
+    sets::has(s, p) || sets::meets(words[layout::DEPENDS + p as usize], s)
 }
 
 // The set, and the places of whoever depends on one of it.

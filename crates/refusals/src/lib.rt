@@ -42,7 +42,9 @@ fn never_given(words: &[u64], x: Txn) -> bool
     requires { ⌜ T (sound-words (now words)) ⌝ }
     ensures { λ r. ⌜ r ≡ (same (txn-of x) nobody || not (ltb (x .num) (unpack (now (words .entry)) .next .num))) ⌝ }
 {
-    let next = Txn { num: words[0] };
+    let next = Txn {
+        num: words[layout::NEXT],
+    };
     x.num == 0 || next.num <= x.num
 }
 
@@ -51,7 +53,9 @@ pub fn of_start(words: &[u64]) -> Why
     requires { ⌜ T (sound-words (now words)) ⌝ }
     ensures { λ r. ⌜ Refuses (now (words .entry)) (calling is-start nobody (obj 0) 0) r ⌝ }
 {
-    let next = Txn { num: words[0] };
+    let next = Txn {
+        num: words[layout::NEXT],
+    };
     if 999999 < next.num {
         return Why::NumbersSpent;
     }
@@ -130,11 +134,11 @@ pub fn of_access(words: &[u64], x: Txn, p: usize, o: Obj) -> Why
     let Why::Done = named else {
         return named;
     };
-    if words[610 + p] != 0 {
+    if words[layout::PREPARED + p] != 0 {
         return Why::AfterAPrepare;
     }
     let holder = lookups::holder(words, o);
-    if sets::has(words[546 + p], o.num as u64) {
+    if sets::has(words[layout::ACCESSED + p], o.num as u64) {
         if holder.num == x.num {
             return Why::Done;
         }
@@ -160,17 +164,17 @@ pub fn of_prepare(words: &[u64], x: Txn, p: usize, o: Obj) -> Why
         return named;
     };
     let i = o.num as u64;
-    if !sets::has(words[546 + p], i) {
+    if !sets::has(words[layout::ACCESSED + p], i) {
         return Why::NotAccessed;
     }
-    if sets::has(words[610 + p], i) {
+    if sets::has(words[layout::PREPARED + p], i) {
         return Why::PreparedBefore;
     }
     let holder = lookups::holder(words, o);
     if holder.num != x.num {
         return Why::Lost;
     }
-    if sets::has(words[578 + p], i) {
+    if sets::has(words[layout::WRITTEN + p], i) {
         if 8 <= counted(words, o, true) {
             return Why::ChainFull;
         }
@@ -184,9 +188,9 @@ fn counted(words: &[u64], o: Obj, queued: bool) -> usize
     ensures { λ r. ⌜ r ≡ counted-in (now (words .entry)) queued (o .num) ⌝ }
 {
     let i = o.num;
-    let saved = words[834 + i] as usize;
+    let saved = words[layout::SAVED_COUNT + i] as usize;
     if queued {
-        saved + words[866 + i] as usize
+        saved + words[layout::QUEUED_COUNT + i] as usize
     } else {
         saved
     }
@@ -201,7 +205,7 @@ fn lacks(words: &[u64], x: Txn, o: Obj, queued: bool) -> bool
     let count = counted(words, o, queued);
     for j in 0..count {
         let writer = Txn {
-            num: words[1154 + (8 * i + j)],
+            num: words[layout::CHAIN_WRITER + (8 * i + j)],
         };
         if writer.num == x.num {
             return false;
@@ -215,7 +219,7 @@ fn first_lacking(words: &[u64], x: Txn, p: usize, queued: bool) -> Obj
     requires { ⌜ T (sound-words (now words)) × (p < place-count) ⌝ }
     ensures { λ r. ⌜ r .num ≡ lowest object-count (is-lacking (now (words .entry)) (txn-of x) p queued) ⌝ }
 {
-    let written = words[578 + p];
+    let written = words[layout::WRITTEN + p];
     for i in 0..32usize {
         let o = Obj { num: i };
         if sets::has(written, i as u64) {
@@ -252,7 +256,7 @@ pub fn of_commit(words: &[u64], x: Txn, p: usize) -> Why
     let Why::Done = named else {
         return named;
     };
-    if !sets::within(words[546 + p], words[610 + p]) {
+    if !sets::within(words[layout::ACCESSED + p], words[layout::PREPARED + p]) {
         return Why::Unprepared;
     }
     if first_missing(words, x, p).num < 32 {
@@ -261,10 +265,10 @@ pub fn of_commit(words: &[u64], x: Txn, p: usize) -> Why
     if first_unsaved(words, x, p).num < 32 {
         return Why::Unsaved;
     }
-    if words[642 + p] != 0 {
+    if words[layout::DEPENDS + p] != 0 {
         return Why::DependencyLive;
     }
-    if 512 <= words[1] {
+    if 512 <= words[layout::LOG_COUNT] {
         Why::LogFull
     } else {
         Why::Done

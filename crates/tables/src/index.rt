@@ -6,7 +6,6 @@ ghost use Prim.Native.Nat.{_+_, _<_};
 ghost use Rattle.rules.specs.Tables.{log-room};
 ghost use Rattle.tables.specs.Index.{bucket-of, number-among};
 ghost use Rattle.tables.specs.Test.{count-in, number-in, Indexed};
-use crate::layout;
 use calls::Lsn;
 use calls::Txn;
 

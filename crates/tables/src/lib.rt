@@ -5,7 +5,6 @@ ghost use Rattle.tables.specs.Tells.{Tells};
 ghost use Rattle.tables.specs.Test.{CountsTest, RestTest};
 
 mod index;
-mod layout;
 mod log;
 mod objects;
 mod places;

@@ -7,7 +7,6 @@ ghost use Rattle.rules.specs.Layout.{word-count};
 ghost use Rattle.tables.specs.Tells.{Tells};
 ghost use Rattle.tables.specs.Test.{count-in, Indexed, Indexing, RecordTest, RecordsTest, PastLog};
 use crate::index;
-use crate::layout;
 use calls::Txn;
 
 // Whether a record's transaction was given out and no earlier record names it; a sound record goes into the index.

@@ -8,7 +8,6 @@ ghost use Rattle.tables.specs.Tells.{Tells};
 ghost use Rattle.tables.specs.Test.{count-in, Parted, LoggedTest, Linked, SeatTest, OtherWriter, EntryTest, PastChain, StableTest, HolderTest, ChainTest, ObjectTest, ObjectsTest};
 ghost use Rattle.tables.specs.Standing.{Standing, AtEntry};
 use crate::index;
-use crate::layout;
 use crate::places;
 use calls::Lsn;
 use calls::Obj;

@@ -9,7 +9,6 @@ ghost use Rattle.rules.specs.Layout.{word-count};
 ghost use Rattle.tables.specs.Tells.{Tells};
 ghost use Rattle.tables.specs.Test.{count-in, seat-in, used-in, SetsTest, FreeTest, UsedTest, PlaceTest, PlacesTest, Indexed, AtPlace};
 use crate::index;
-use crate::layout;
 use calls::Txn;
 
 // Whether a set has a member.
