@@ -9,7 +9,7 @@
  * A refusal leaves every word as it was, save two: MV_LOST and MV_DIED undo the transaction named, with all that depend
  * on it. Each call's outcome is proved to be the one that docs/CLAIMS.md names for it; docs/INTERFACE.md has the rest.
  *
- * No call allocates, blocks, keeps state between calls or prints; each uses some 16 KiB of stack. Two threads must not
+ * No call allocates, blocks, keeps state between calls or prints; each uses less than 8 KiB of stack. Two threads must not
  * make calls on the same words at the same time.
  */
 #ifndef MV_H
