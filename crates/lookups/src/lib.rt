@@ -14,7 +14,7 @@ ghost use Rattle.calls.specs.Meaning.{txn-of, lsn-of, obj-of};
 ghost use Rattle.lookups.specs.Entries.{entry-of, entry-words};
 ghost use Rattle.lookups.specs.Places.{live-place};
 ghost use Rattle.lookups.specs.Rounds.{joins-in};
-ghost use Rattle.lookups.specs.Scans.{first-at, last-at};
+ghost use Rattle.lookups.specs.Scans.{first-at};
 use calls::Lsn;
 use calls::Obj;
 use calls::Txn;
@@ -36,21 +36,6 @@ fn scan(words: &[u64], from: usize, count: usize, x: u64) -> usize
         }
     }
     count
-}
-
-// One more than the last of the `count` words from `from` on that is x, counted from 0, or 0 where none is.
-fn scan_back(words: &[u64], from: usize, count: usize, x: u64) -> usize
-    requires { ⌜ from + count ≤ length (now words) ⌝ }
-    ensures { λ r. ⌜ r ≡ last-at (now (words .entry)) from count x ⌝ }
-{
-    let mut left = count;
-    while 0 < left {
-        left -= 1;
-        if words[from + left] == x {
-            return left + 1;
-        }
-    }
-    0
 }
 
 // The lowest place with the number x, or 32 where none has it; the words need not be sound.
@@ -85,10 +70,8 @@ pub fn log_number(words: &[u64], x: Txn) -> Lsn
     requires { ⌜ T (sound-words (now words)) ⌝ }
     ensures { λ r. ⌜ lsn-of r ≡ number-in (unpack (now (words .entry)) .log) (txn-of x) ⌝ }
 {
-    let count = words[layout::LOG_COUNT];
-    // From the last record down: who is asked about has mostly just committed, and nobody has two records.
-    let last = scan_back(words, layout::LOG, count as usize, x.num) as u64;
-    let number = if last == 0 { 1 + count } else { last };
+    let count = words[layout::LOG_COUNT] as usize;
+    let number = 1 + scan(words, layout::LOG, count, x.num) as u64;
     Lsn { num: number }
 }
 
