@@ -99,6 +99,21 @@ void history(std::uint64_t seed, bool by_lines, std::size_t length, Tables& tabl
     }
 }
 
+// A chain with no room left, some of it saved: eight writers of one object, each building on the one before.
+void full_chain(std::uint64_t seed, Tables& tables, Words& words) {
+    Dice dice(seed);
+    tables = Tables{};
+    words.assign(model::kWords, 0);
+    mv_fresh(words.data(), words.size());
+    const auto object = static_cast<std::uint8_t>(dice.below(32));
+    for (std::uint32_t txn = 1; txn <= model::kChain; ++txn)
+        for (const Call& call : {Call{1, 0, 0, 0}, Call{3, txn, object, dice.any()}, Call{4, txn, object, 0}, Call{5, 0, object, 0}}) {
+            if (call.kind == 5 && !dice.one_in(3)) continue;
+            if (!(core_call(words, call) == tables.call(call))) fault("an answer on the way to a full chain", seed);
+            ++counts.calls;
+        }
+}
+
 // A text of lines through mv_run, with a room that may be short, and the last line feed that may be missing.
 void text(std::uint64_t seed) {
     Dice dice(seed);
@@ -252,12 +267,14 @@ void round_of(std::uint64_t seed) {
     Tables tables;
     Words words;
     Dice dice(seed);
-    // tables are spoiled as real histories leave them: after a few calls, after many, with the log full
+    // tables are spoiled as real histories leave them: after a few calls, after many, with the log full, with a chain full
     std::uint64_t number = 100 * seed;
     for (std::uint64_t length : {dice.below(40), dice.below(400), std::uint64_t{1400}, std::uint64_t{3000}, std::uint64_t{8000}}) {
         history(++number, false, length, tables, words);
         if (length != 1400 && length != 3000) spoil(number, words);
     }
+    full_chain(++number, tables, words);
+    spoil(number, words);
     for (int i = 0; i < 3; ++i) history(++number, true, 3000, tables, words);
     for (int i = 0; i < 20; ++i) text(++number);
 }
