@@ -1,4 +1,6 @@
 // What a call answers and leaves on sound words: it is decided, then refused for its reason or done.
+#![tactic(auto)]
+
 ghost use Rattle.std.specs.Prelude.{◌≡◌, cond, suc, ◌<◌, ◌≤◌, T, length};
 ghost use Rattle.std.proofs.Math.Option.{none, some};
 ghost use Rattle.rules.specs.Tests.{lowest, lower as lower_of, least};

@@ -1,5 +1,7 @@
 // The steps that end transactions, move versions on and lose them, on sound words: commit, undo, settle, crash, restart;
 // and fresh tables. Each leaves what the rules' step of that name leaves.
+#![tactic(auto)]
+
 mod objects;
 
 ghost use Rattle.std.specs.Prelude.{◌≡◌, cond, not, ℕ, ◌+◌, ◌<◌, ◌^◌, T, eqb, length};

@@ -1,6 +1,8 @@
 // Frames: a line to a call or to a bad frame, an answer to its line. A call's line is its kind (2 digits), transaction (8),
 // object (2) and value (16), an answer's its number (2) and value (16), each with a line feed. Digits are lower-case
 // hexadecimal, high digits first. specs/Parts.antt says what each function here gives.
+#![tactic(auto)]
+
 ghost use Rattle.std.specs.Prelude.{◌≡◌, ◌+◌, ◌/◌, ◌%◌, ◌≤◌, ◌<◌, T, eqb, length};
 ghost use Rattle.rules.specs.Frames.{fields_of, unused_zero, digits, read_frame};
 ghost use Rattle.frames.specs.Parsed.{parsed_as, with_answer};
@@ -9,7 +11,7 @@ ghost use Rattle.frames.specs.Parts.{digit_characters, digit_values, field, sum_
 use calls::{Answer, Call, Kind, Obj, Txn};
 
 // What a line asks.
-#[derive(Drop)]
+#[derive(Clone, Copy)]
 pub enum Parsed {
     // A call.
     Asks(Call),
@@ -18,7 +20,7 @@ pub enum Parsed {
 }
 
 // What a number names among the kinds.
-#[derive(Drop)]
+#[derive(Clone, Copy)]
 enum Named {
     Is(Kind),
     Nothing,

@@ -1,5 +1,6 @@
 // Where each thing stands in the lent words, and how many there are of it, as docs/LAYOUT.md gives them. The places have names
 // here alone; that the code puts each thing where the rules' Layout has it is what the contracts of the code say.
+#![tactic(auto)]
 
 // How many words there are.
 pub const WORDS: usize = 1410;

@@ -1,5 +1,7 @@
 // The steps of a running transaction on sound words: start, the lock at first access, the working value, prepare, save.
 // Each leaves what the rules' step of that name leaves.
+#![tactic(auto)]
+
 ghost use Rattle.std.specs.Prelude.{◌≡◌, ◌<◌, ◌≤◌, ◌^◌, T, length};
 ghost use Rattle.rules.specs.Sets.{width, has};
 ghost use Rattle.rules.specs.Tables.{object_count, chain_room, last_number, object, is_live, place_of, sets_of, chain};

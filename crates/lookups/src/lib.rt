@@ -1,5 +1,7 @@
 // Looking into the tables that sound words hold: who is live and where, who is logged and under which number, which places
 // are free, who holds an object and what its latest version is, who falls with a transaction.
+#![tactic(auto)]
+
 ghost use Rattle.std.specs.Prelude.{◌≡◌, cond, ◌+◌, ◌^◌, ◌≤◌, ◌<◌, T, length};
 ghost use Rattle.rules.specs.Sets.{width};
 ghost use Rattle.rules.specs.Tables.{place_count, object_count, object, place_of as place_in, log_number as number_in, latest as latest_of};
@@ -15,7 +17,7 @@ ghost use Rattle.lookups.specs.Scans.{first_at};
 use calls::{Lsn, Obj, Txn};
 
 // A version: its value and the transaction that wrote it.
-#[derive(Drop)]
+#[derive(Clone, Copy)]
 pub struct Entry {
     pub value: u64,
     pub writer: Txn,

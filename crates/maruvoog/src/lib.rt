@@ -1,6 +1,8 @@
 // The calls that the host makes, through plain C. Each takes every input: it tests the lent words for itself, and its
 // promise gives the answer and every word at exit from what came in. docs/INTERFACE.md says what each needs, answers and
 // leaves; include/mv.h declares them.
+#![tactic(auto)]
+
 ghost use Rattle.std.specs.Prelude.{◌≡◌, T};
 ghost use Rattle.rules.specs.Answers.{is_start, is_read, is_write, is_prepare, is_save, is_commit, is_abort, is_settle, is_crash, is_restart, is_status, is_look};
 ghost use Rattle.rules.specs.Frames.{unused_zero};

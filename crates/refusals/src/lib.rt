@@ -1,5 +1,7 @@
 // Why a call is refused: on sound words, the first reason of the call's order whose fact holds, found by tests in that
 // order. A place p that comes with a transaction is the one that it has, or 32 where it is not live.
+#![tactic(auto)]
+
 ghost use Rattle.std.specs.Prelude.{◌≡◌, not, ◌||◌, List, ℕ, ◌<◌, T, ltb};
 ghost use Rattle.rules.specs.Tests.{lowest};
 ghost use Rattle.rules.specs.Tables.{obj, nobody, same, object_count, place_count};
@@ -13,7 +15,7 @@ ghost use Rattle.refusals.specs.Reasons.{calling, Refuses, RefusesAccess, Refuse
 use calls::{Obj, Txn};
 
 // The reasons for which a call on sound words is not done.
-#[derive(Drop)]
+#[derive(Clone, Copy)]
 pub enum Why {
     Done,
     NoSuchObject,

@@ -1,4 +1,6 @@
 // A text of many lines on sound words: each line is answered in turn, as long as the answers' room has a line left.
+#![tactic(auto)]
+
 ghost use Rattle.std.specs.Prelude.{◌≡◌, ◌+◌, ◌≤◌, ◌<◌, T, length};
 ghost use Rattle.rules.specs.Layout.{sound_words};
 ghost use Rattle.frames.specs.Parts.{digit_values};
@@ -19,14 +21,14 @@ const FRAME: usize = 29;
 const BAD_FRAME: u64 = 0x12;
 
 // How many lines were answered, and how many bytes of the text they were.
-#[derive(Drop)]
+#[derive(Clone, Copy)]
 pub struct Ran {
     pub lines: usize,
     pub used: usize,
 }
 
 // The answer to the first line of a text, and how many bytes the line has.
-#[derive(Drop)]
+#[derive(Clone, Copy)]
 struct Answered {
     answer: Answer,
     length: usize,

@@ -1,4 +1,6 @@
 // Sets of objects and of places as the words hold them: one number, bit i for the member i.
+#![tactic(auto)]
+
 ghost use Rattle.std.specs.Prelude.{◌≡◌, ◌<◌, ◌^◌};
 ghost use Rattle.rules.specs.Tests.{count as how_many, lowest as lowest_of};
 ghost use Rattle.rules.specs.Sets.{width, has as is_in, with_member, without_member, within as lies_in, meets as meet};

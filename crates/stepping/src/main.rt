@@ -1,6 +1,8 @@
 // The stepping program: reads call lines on standard input to its end, starting from fresh tables, and writes an answer
 // line for each. What it holds does not grow with the input: of an unfinished line it keeps only as much as tells that a
 // longer line is no frame.
+#![tactic(auto)]
+
 ghost use Rattle.std.specs.Prelude.{◌≡◌, ◌≤◌, T, length};
 ghost use Rattle.rules.specs.Layout.{sound_words};
 ghost use Rattle.stepping.specs.Kept.{most_kept, kept_of, Whole, Moved};

@@ -1,4 +1,6 @@
 // The test of lent words: whether they hold sound tables.
+#![tactic(auto)]
+
 ghost use Rattle.std.specs.Prelude.{◌≡◌};
 ghost use Rattle.rules.specs.Layout.{sound_words};
 ghost use Rattle.tables.specs.Tells.{Tells};

@@ -10,7 +10,7 @@ use crate::{index, places};
 use calls::{Lsn, Obj, Txn};
 
 // Where a transaction stands: its log number, or 0, and its place, or 32.
-#[derive(Drop)]
+#[derive(Clone, Copy)]
 pub struct Stand {
     pub number: Lsn,
     pub seat: usize,
