@@ -4,7 +4,7 @@ use Rattle.std.specs.Prelude.{◌≡◌, true, false, cond, ◌&&◌, ◌↔◌,
 use Rattle.std.proofs.Common.{sym, arith}
 use Rattle.std.proofs.Math.Path.{subst}
 use Rattle.std.proofs.Math.Bool.{Bool, not}
-use Rattle.std.proofs.Math.Logic.{⊎_elim, Iff·rfl}
+use Rattle.std.proofs.Math.Logic.{⊎_elim, Iff.rfl as iff_rfl}
 use Prim.Native.Nat.{ℕ, ◌^◌, ◌≤◌, ◌<◌}
 use Rattle.std.proofs.Math.Dec.{T}
 use Rattle.rules.specs.Tests.{◌⇒◌, some_below, lowest}
@@ -62,7 +62,7 @@ module _ (t : Tables) (c : Call) where
 
   pub prepared_says : T (fact after_a_prepare t c) ↔ ((asker t c).prepared ≡ 0 → ⊥)
   unfolding fact
-  prepared_says = simp tells Iff·rfl
+  prepared_says = simp tells iff_rfl
 
   -- lost at read, write or prepare
   pub lost_says : same_kind c.kind is_commit ≡ false
@@ -73,15 +73,15 @@ module _ (t : Tables) (c : Call) where
       (λ (b : Bool). T (cond b (some_below object_count (is_missing t c)) (is_unprepared t c o && not (same (holder t c) c.who)))
       ↔ ((T (has (asker t c).accessed o) × (T (has (asker t c).prepared o) → ⊥)) × ((holder t c).num ≡ x → ⊥)))
       (sym e)
-      (simp tells Iff·rfl)
+      (simp tells iff_rfl)
 
   pub wait_says : T (fact wait t c) ↔ ((((holder t c).num ≡ 0 → ⊥) × ((holder t c).num ≡ x → ⊥)) × (x < (holder t c).num))
   unfolding fact
-  wait_says = simp tells Iff·rfl
+  wait_says = simp tells iff_rfl
 
   pub died_says : T (fact died t c) ↔ ((((holder t c).num ≡ 0 → ⊥) × ((holder t c).num ≡ x → ⊥)) × ((holder t c).num < x))
   unfolding fact
-  died_says = simp tells Iff·rfl
+  died_says = simp tells iff_rfl
 
   pub not_accessed_says : T (fact not_accessed t c) ↔ (T (has (asker t c).accessed o) → ⊥)
   unfolding fact
@@ -89,15 +89,15 @@ module _ (t : Tables) (c : Call) where
 
   pub prepared_before_says : T (fact prepared_before t c) ↔ T (has (asker t c).prepared o)
   unfolding fact
-  prepared_before_says = Iff·rfl
+  prepared_before_says = iff_rfl
 
   pub chain_full_says : T (fact chain_full t c) ↔ ((chain_room ≤ length (chain (object t c.what))) × T (has (asker t c).written o))
   unfolding fact
-  chain_full_says = simp tells Iff·rfl
+  chain_full_says = simp tells iff_rfl
 
   pub dependency_says : T (fact dependency_live t c) ↔ ((asker t c).depends ≡ 0 → ⊥)
   unfolding fact
-  dependency_says = simp tells Iff·rfl
+  dependency_says = simp tells iff_rfl
 
   pub log_full_says : T (fact log_full t c) ↔ (log_room ≤ length t.log)
   unfolding fact
