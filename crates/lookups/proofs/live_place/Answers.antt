@@ -1,0 +1,15 @@
+-- `lookups::live_place` meets its contract. Nobody has the number 0, and any other number has a place where it is live.
+-- Assumes nothing.
+use Rattle.std.proofs.Common.{◌∙◌}
+use Rattle.rules.specs.Tables.{txn}
+use Rattle.rules.specs.Layout.{unpack}
+use Rattle.lookups.proofs.Living.{nobody_placed, somebody_placed}
+use Rattle.lookups.proofs.live_place.Goals as goal
+
+pub returns-then-x-eq0 : goal.returns-then-x-eq0
+returns-then-x-eq0 c = let a = c.args in
+    nobody_placed (unpack a.words.now).live (txn a.x.num) c.if-x-eq0.true
+
+pub returns : goal.returns
+returns c = let a = c.args in
+    c.place_of.ensures ∙ somebody_placed (unpack a.words.now).live (txn a.x.num) c.if-x-eq0.false
