@@ -7,7 +7,7 @@ use Rattle.rules.specs.Tests.{row}
 use Rattle.rules.specs.Tables.{txn, obj}
 use Rattle.rules.specs.Answers.{is_start}
 use Rattle.rules.specs.Answers as rules
-use Rattle.rules.specs.Frames.{Fields, fields_of, is_digit, digit_value, digit, kinds, unused_zero}
+use Rattle.rules.specs.Frames.{Fields, is_digit, digit_value, digit, kinds, unused_zero}
 use Rattle.calls.specs.Meaning.{kind_of}
 use Rattle.frames.specs.declared.Named.{Named}
 use Rattle.frames.specs.declared.Named.TheVariants.{Is, Nothing}

@@ -3,7 +3,6 @@
 -- Assumes nothing.
 use Rattle.std.proofs.Common.{◌≡◌, refl, sym, ap, ◌∙◌, Bool, true, false, cond, ◌&&◌, ℕ}
 use mathlib.Core.Option.{none, some, none-ne-some}
-use borrow.Author.Tests.{not-true, not-false}
 use Rattle.rules.specs.Frames.{unused_zero}
 use Rattle.basics.specs.Logic.{from_true}
 use Rattle.calls.specs.declared.Kind.{Kind}
@@ -30,26 +29,21 @@ known : (r : Named) (k : Kind) (n : ℕ) → r ≡ Is k → named_as r ≡ kind_
 known r k n e f = let_through (is_kind n) (kind_of k) (kind_numbered n) (sym (ap named_as e) ∙ f)
 
 -- what the second test begins with
-found : (c : In-Is)
-    → (is_kind c.args.number ≡ true)
-    × (kind_of c.kind-1.given.0.0 ≡ kind_numbered c.args.number)
-found c =
-    known _ _ c.args.number c.kind-1.given.1
-    c.kind.ensures
+found : (c : In-Is) → (is_kind c.args.number ≡ true) × (kind_of c.in-Is.kind ≡ kind_numbered c.args.number)
+found c = known _ _ c.args.number c.in-Is.is c.kind.ensures
 
 pub returns-in_default : goal.returns-in_default
 returns-in_default c = let a = c.args in
     let call = call_numbered a.number a.who.num a.what.num a.value in
-    stopped (is_kind a.number) (unused_zero call) (kind_numbered a.number) call
-    (sym (ap named_as c.enum_told-1.given.1) ∙ c.kind.ensures)
+    stopped (is_kind a.number) (unused_zero call) (kind_numbered a.number) call c.in_default.ensures
 
 pub unused_zero-requires : goal.unused_zero-requires
 unused_zero-requires c = from_true _ (found (goal.at.unused_zero-requires c).In-Is).0
 
 pub returns-then-not-unused_zero : goal.returns-then-not-unused_zero
 returns-then-not-unused_zero c = let (is, same) = found (goal.at.returns-then-not-unused_zero c).In-Is in
-    rw (is, sym c.unused_zero.ensures ∙ not-true _ c.if-not-unused_zero.true)
+    rw (is, sym c.unused_zero.ensures ∙ c.if-not-unused_zero.true)
 
 pub returns : goal.returns
 returns c = let (is, same) = found (goal.at.returns c).In-Is in
-    rw (is, sym c.unused_zero.ensures ∙ not-false _ c.if-not-unused_zero.false, same)
+    rw (is, sym c.unused_zero.ensures ∙ c.if-not-unused_zero.false, same)

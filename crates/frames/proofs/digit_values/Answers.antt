@@ -1,4 +1,4 @@
-use Rattle.std.proofs.Common.{◌≡◌, refl, ap, ◌∙◌, ◌-◌, add-one, arith}
+use Rattle.std.proofs.Common.{◌≡◌, refl, ap, ◌∙◌, add-one, arith}
 use Rattle.rules.specs.Tests.{row}
 use Rattle.frames.specs.Parts.{digit_characters, digit_values}
 use Rattle.frames.proofs.Stretches.{character_at, character_byte}

@@ -2,13 +2,13 @@
 -- no digit stands for elsewhere. That with all sixteen it has for each byte what the byte stands for is computed once,
 -- over the table.
 -- The measure is how many numbers are left. Assumes nothing.
-use Rattle.std.proofs.Common.{◌≡◌, List, ℕ, zero, suc, ◌-◌, ◌≤◌, set, replicate}
+use Rattle.std.proofs.Common.{◌≡◌, List, ℕ, zero, suc, ◌≤◌, set, replicate}
 use Rattle.rules.specs.Frames.{digit}
 use Rattle.frames.specs.Parts.{digit_characters, no_digit}
 use Rattle.frames.proofs.digit_values.Given as goal
 
 -- the table with the numbers below a bound at their digits
-pub marked : ℕ → List ℕ
+unfoldable pub marked : ℕ → List ℕ
 marked zero = replicate 256 no_digit
 marked (suc n) = set (marked n) (digit n) n
 

@@ -1,6 +1,6 @@
 -- `frames::put` meets its contract. The loop's invariant: the digits still to write, over the room as it is, give what
 -- all digits give over the room as it was. The measure is how many are left. Assumes nothing.
-use Rattle.std.proofs.Common.{◌≡◌, ◌-◌, ◌≤◌, length}
+use Rattle.std.proofs.Common.{◌≡◌, ◌≤◌, length}
 use Rattle.rules.specs.Frames.{digits}
 use Rattle.frames.specs.Parts.{over}
 use Rattle.frames.proofs.put.Given as goal

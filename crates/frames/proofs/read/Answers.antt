@@ -2,7 +2,6 @@
 -- digits, is refused by the rules too; of any other the rules read what its fields ask.
 -- Assumes nothing.
 use Rattle.std.proofs.Common.{◌≡◌, ◌∙◌, Bool, List, ℕ, ◌+◌, ◌*◌, ◌^◌, ◌<◌, arith, T, length}
-use borrow.Author.Tests.{not-true, not-false}
 use Rattle.rules.specs.Frames.{frame_length}
 use Rattle.basics.specs.Logic.{from_true}
 use Rattle.frames.specs.Parts.{no_digit}
@@ -12,7 +11,7 @@ use Rattle.frames.proofs.read.Goals as goal
 
 -- where its length and its line feed are known to be right
 abbrev shaped : After-number-low → Else-line-ne-LINE_FEED
-shaped c = c.before.before.before.before.before
+shaped c = (goal.at.After-number-low c).Else-line-ne-LINE_FEED
 
 -- the line, and the numbers of its fields
 abbrev line : After-number-low → List ℕ
@@ -33,16 +32,16 @@ numbers c =
 -- the test of the five numbers
 abbrev digits-alone : After-number-low → Bool
 digits-alone c =
-    all_small c.before.before.before.before.number.result c.before.before.before.number2.result
-    c.before.before.number3.result c.before.number4.result c.number5.result
+    all_small c.number-kind.result c.number-who.result
+    c.number-what.result c.number-high.result c.number-low.result
 
 -- where it passes
 module _ (c : Else-not-all_digits) where
   long : length (line (goal.at.Else-not-all_digits c).After-number-low) ≡ frame_length
-  long = (shaped (goal.at.Else-not-all_digits c).After-number-low).before.before.if1.false
+  long = c.if-line-ne29.false
 
   small : T (digits-alone (goal.at.Else-not-all_digits c).After-number-low)
-  small = from_true (digits-alone (goal.at.Else-not-all_digits c).After-number-low) (not-false (digits-alone (goal.at.Else-not-all_digits c).After-number-low) c.if-not-all_digits.false)
+  small = from_true (digits-alone (goal.at.Else-not-all_digits c).After-number-low) c.if-not-all_digits.false
 
   fits : c.number-high.result * no_digit + c.number-low.result < 2 ^ 64
   fits = value_fits _ _ _ _ _ _ (numbers (goal.at.Else-not-all_digits c).After-number-low) long small
@@ -54,15 +53,15 @@ pub returns-then-line-ne-LINE_FEED : goal.returns-then-line-ne-LINE_FEED
 returns-then-line-ne-LINE_FEED c = wrong_end c.args.line.now c.if-line-ne-LINE_FEED.true
 
 pub returns-then-not-all_digits : goal.returns-then-not-all_digits
-returns-then-not-all_digits c = wrong_character _ _ _ _ _ _ (numbers (goal.at.returns-then-not-all_digits c).After-number-low) (λ t. rw (not-true (digits-alone (goal.at.returns-then-not-all_digits c).After-number-low) c.if-not-all_digits.true) at t)
+returns-then-not-all_digits c = wrong_character _ _ _ _ _ _ (numbers (goal.at.returns-then-not-all_digits c).After-number-low) (λ t. rw c.if-not-all_digits.true at t)
 
 pub overflow_mul-high : goal.overflow_mul-high
-overflow_mul-high c = omega (arith, fits c)
+overflow_mul-high c = omega (arith, fits (goal.at.overflow_mul-high c).Else-not-all_digits)
 
 pub overflow_add-high : goal.overflow_add-high
-overflow_add-high c = omega (arith, fits c)
+overflow_add-high c = omega (arith, fits (goal.at.overflow_add-high c).Else-not-all_digits)
 
 pub returns : goal.returns
 returns c = let all : Else-not-all_digits = (goal.at.returns c).Else-not-all_digits in
     c.ask.ensures
-    ∙ read_fields _ _ _ _ _ _ (numbers (goal.at.returns c).After-number-low) (long all) (small all) (shaped (goal.at.returns c).After-number-low).if2.false
+    ∙ read_fields _ _ _ _ _ _ (numbers (goal.at.returns c).After-number-low) (long all) (small all) c.if-line-ne-LINE_FEED.false

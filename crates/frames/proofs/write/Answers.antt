@@ -9,21 +9,20 @@ use Rattle.frames.proofs.write.Goals.{After-put}
 use Rattle.frames.proofs.write.Goals as goal
 
 -- the room is as long after the value as before it
-after-value : (c : After-put) → length c.put.new.1.0 ≡ length c.args.room.now
-after-value c = c.put.auto.1.0 ∙ simp length-set
+after-value : (c : After-put) → length c.put.new.room ≡ length c.args.room.now
+after-value c = c.put.auto.room ∙ simp length-set
 
 pub put-requires : goal.put-requires
 unfolding digit_characters row
-put-requires c = (refl, simp length-set (omega arith))
+put-requires c = record { characters_value = refl; count_in_bounds = simp length-set (omega arith) }
 
 pub put-requires-2 : goal.put-requires-2
 unfolding digit_characters row
-put-requires-2 c = (refl, omega (arith, after-value (goal.at.put-requires-2 c).After-put))
+put-requires-2 c = record { characters_value = refl; count_in_bounds = omega (arith, after-value (goal.at.put-requires-2 c).After-put) }
 
 pub shape_of-room : goal.shape_of-room
-shape_of-room c = c.put-2.auto.1.0 ∙ after-value (goal.at.shape_of-room c).After-put
+shape_of-room c = c.put-2.auto.room ∙ after-value (goal.at.shape_of-room c).After-put
 
 pub returns : goal.returns
 returns c = let put2 = c.put-2 in
-    let start = (goal.at.returns c).Start in
-    rw (put2.ensures, c.put.ensures) (over_answer start.args.room.now start.args.at start.args.answer start.requires)
+    rw (put2.ensures, c.put.ensures) (over_answer c.args.room.now c.args.at c.args.answer c.requires)
