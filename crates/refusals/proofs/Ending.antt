@@ -39,13 +39,13 @@ module _ {ws : List ℕ} {x p : ℕ} (n : Alive ws x p) where
     tested_so : f ≡ within (asker ws x).accessed (asker ws x).prepared
     tested_so = tested ∙ ap (λ (l : Live). within l.accessed l.prepared) (asker_is n)
 
-    pub not_prepared : not f ≡ true → FirstOf ws c commit_rest Unprepared
+    pub not_prepared : f ≡ false → FirstOf ws c commit_rest Unprepared
     not_prepared e =
         because ws c commit_rest Unprepared unprepared refl
-        (ends.unprepared_first (unpack ws) c (unset_fails f (within (asker ws x).accessed (asker ws x).prepared) tested_so (not-true f e)))
+        (ends.unprepared_first (unpack ws) c (unset_fails f (within (asker ws x).accessed (asker ws x).prepared) tested_so e))
 
-    pub all_prepared : not f ≡ false → T (within (asker ws x).accessed (asker ws x).prepared)
-    all_prepared e = set_passes f (within (asker ws x).accessed (asker ws x).prepared) tested_so (not-false f e)
+    pub all_prepared : f ≡ true → T (within (asker ws x).accessed (asker ws x).prepared)
+    all_prepared e = set_passes f (within (asker ws x).accessed (asker ws x).prepared) tested_so e
 
   pub missing : T (within (asker ws x).accessed (asker ws x).prepared) → (m : ℕ) → m ≡ lowest object_count (is_missing (unpack ws) c) → m < object_count
       → FirstOf ws c commit_rest Lost

@@ -29,13 +29,13 @@ module _ {ws : List ℕ} {x p : ℕ} (n : Alive ws x p) (o : ℕ) where
 
   -- by a flag that says whether the transaction accessed the object
   module _ (f : Bool) (tested : f ≡ has (word ws (accessed_at + p)) o) where
-    pub unaccessed : not f ≡ true → FirstOf ws c prepare_rest NotAccessed
+    pub unaccessed : f ≡ false → FirstOf ws c prepare_rest NotAccessed
     unaccessed e =
         because ws c prepare_rest NotAccessed not_accessed refl
-        (not_accessed_first t c (other n o (λ l. l.accessed) f tested (not-true f e)))
+        (not_accessed_first t c (other n o (λ l. l.accessed) f tested e))
 
-    pub was_accessed : not f ≡ false → T (has (asker ws x).accessed o)
-    was_accessed e = member n o (λ l. l.accessed) f tested (not-false f e)
+    pub was_accessed : f ≡ true → T (has (asker ws x).accessed o)
+    was_accessed e = member n o (λ l. l.accessed) f tested e
 
   -- and by one that says whether it prepared it
   module _ (accessed : T (has (asker ws x).accessed o)) (f : Bool) (tested : f ≡ has (word ws (prepared_at + p)) o) where

@@ -1,19 +1,11 @@
 -- The code's reasons, back from the rules' refusals: a reason that the code passed over is not the rules' either.
 -- Rests on Reasons. Assumes nothing.
-use mathlib.Core.Path.{◌≡◌, refl, ap, sym, subst, ◌∙◌}
-use mathlib.Core.Bool.{not}
-use mathlib.Core.List.{List, [], ◌∷◌}
+use mathlib.Core.Path.{◌≡◌, refl, ap, sym, ◌∙◌}
 use mathlib.Core.Option.{Option, none, some}
-use Prim.Native.Nat.{ℕ}
-use lib.Dec.{T}
-use mir.Val.{has_key}
-use denote.Enum.Declared.{tag_of}
-use types.Run.{OneOf, miss}
 use Rattle.rules.specs.Answers.{Refusal, unsound, no_such_object, never_given_out, no_longer_live, after_a_prepare, lost, wait, died, not_accessed, prepared_before, chain_full, unprepared, unsaved, dependency_live, log_full, places_full, numbers_spent, bad_frame}
 use Rattle.refusals.specs.declared.Why.{Why}
 use Rattle.refusals.specs.declared.Why.TheVariants.{Done, NoSuchObject, NeverGivenOut, NoLongerLive, AfterAPrepare, Lost, Wait, Died, NotAccessed, PreparedBefore, ChainFull, Unprepared, Unsaved, DependencyLive, LogFull, PlacesFull, NumbersSpent}
 use Rattle.refusals.specs.Reasons.{reason_of}
-use Rattle.refusals.specs.contracts.Why.{the_type}
 
 -- the code has no reason for unsound words or a bad frame
 abbrev why_of : Option Refusal → Why
@@ -56,16 +48,9 @@ back LogFull = refl
 back PlacesFull = refl
 back NumbersSpent = refl
 
--- a reason whose place among the variants is not one of an arm's is not the arm's
-pub passed_over : (ks : List ℕ) (w : Why) (r : Option Refusal) → OneOf ks (tag_of the_type w)
-    → T (not (has_key ks (tag_of the_type (why_of r)))) → reason_of w ≡ r → ⊥
-passed_over ks w r one none_such e =
-    miss ks (tag_of the_type (why_of r)) none_such
-    (subst (λ (v : Why). OneOf ks (tag_of the_type v)) (sym (back w) ∙ ap why_of e) one)
+-- a reason that is not the code's name for one is not that one
+pub passed_over : (w : Why) (r : Option Refusal) → (w ≡ why_of r → ⊥) → reason_of w ≡ r → ⊥
+passed_over w r other e = other (sym (back w) ∙ ap why_of e)
 
--- the variants but Done
-abbrev pub but_done : List ℕ
-but_done = 1 ∷ 2 ∷ 3 ∷ 4 ∷ 5 ∷ 6 ∷ 7 ∷ 8 ∷ 9 ∷ 10 ∷ 11 ∷ 12 ∷ 13 ∷ 14 ∷ 15 ∷ 16 ∷ []
-
-pub not_done : (w : Why) → OneOf but_done (tag_of the_type w) → reason_of w ≡ none → ⊥
-not_done w one = passed_over but_done w none one tt
+pub not_done : (w : Why) → (w ≡ Done → ⊥) → reason_of w ≡ none → ⊥
+not_done w = passed_over w none

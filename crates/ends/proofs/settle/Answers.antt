@@ -1,0 +1,51 @@
+-- `ends::settle` meets its contract. Where none leaves, the words are those of the step already; else `settle-leaves-
+-- some` says that they become so.
+-- Assumes nothing.
+use Rattle.std.proofs.Common.{List, ap, sym, ◌∙◌, ℕ, arith}
+use Rattle.rules.specs.Tables.{Lsn, txn, log_number}
+use Rattle.rules.specs.Layout.{unpack}
+use Rattle.ends_laws.specs.Settle.{settle_number_most}
+use Rattle.ends_laws.specs.Leaves.{size, settle_number_is, settle_leaves_none, settle_leaves_some}
+use Rattle.ends.proofs.settle.Goals as goal
+
+pub settle_number-k-requires : goal.settle_number-k-requires
+settle_number-k-requires c = (size c.args.words.now c.requires.0, c.requires.1)
+
+pub returns-then-k-eq0 : goal.returns-then-k-eq0
+returns-then-k-eq0 c = let settle-number-call = c.settle_number-k in
+    let ws : List ℕ = c.args.words.now in
+    let o = c.args.o.num in
+    let pre = c.requires in (
+      sym c.if-k-eq0.true ∙ settle-number-call.ensures ∙ settle_number_is ws pre.0 o pre.1,
+      settle_leaves_none ws pre.0 o pre.1 (sym settle-number-call.ensures ∙ c.if-k-eq0.true),
+    )
+
+pub writer_at-last-requires : goal.writer_at-last-requires
+writer_at-last-requires c = let most = settle_number_most c.args.words.now c.args.o.num in
+    (size c.args.words.now c.requires.0, c.requires.1, omega arith)
+
+pub log_number-n-requires : goal.log_number-n-requires
+log_number-n-requires c = c.requires.0
+
+pub settle_object-requires : goal.settle_object-requires
+settle_object-requires c = let ws : List ℕ = c.args.words.now in
+    let most = settle_number_most ws c.args.o.num in
+    (size ws c.requires.0, c.requires.1, omega arith, omega arith, omega arith)
+
+pub shape_of-words : goal.shape_of-words
+shape_of-words c = c.settle_object.auto.words
+
+pub returns : goal.returns
+returns c = let settle-number-call = c.settle_number-k in
+    let log-number-call = c.log_number-n in
+    let ws : List ℕ = c.args.words.now in
+    let o = c.args.o.num in
+    let pre = c.requires in (
+      settle-number-call.ensures ∙ settle_number_is ws pre.0 o pre.1,
+      c.settle_object.ensures
+          ∙ settle_leaves_some ws pre.0 o pre.1 settle-number-call.result log-number-call.result.num
+          settle-number-call.ensures
+          (omega arith)
+          (ap (λ (n : Lsn). n.num) log-number-call.ensures
+          ∙ ap (λ (y : ℕ). (log_number (unpack ws).log (txn y)).num) c.writer_at-last.ensures),
+    )

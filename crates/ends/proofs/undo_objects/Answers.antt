@@ -1,0 +1,20 @@
+use Rattle.std.proofs.Common.{sym, ◌∙◌, ◌-◌, arith}
+use Rattle.ends_laws.specs.Loops.{turning_none, turning_more, turning_all}
+use Rattle.ends_laws.specs.Undo.{undo_object}
+use Rattle.ends.proofs.undo_objects.Goals as goal
+
+pub loop-i-init : goal.loop-i-init
+loop-i-init c = turning_none c.requires
+
+pub undo_object-requires : goal.undo_object-requires
+undo_object-requires c = (c.loop-i.invariant.size, omega arith)
+
+pub loop-i-preserved : goal.loop-i-preserved
+loop-i-preserved c = let call = c.undo_object in
+    turning_more c.loop-i.invariant (omega arith) call.auto.words call.ensures
+
+pub shape_of-words : goal.shape_of-words
+shape_of-words c = c.loop-i.invariant.size ∙ sym c.requires
+
+pub returns : goal.returns
+returns c = turning_all c.loop-i.invariant c.loop-i-test.false

@@ -1,0 +1,20 @@
+use Rattle.std.proofs.Common.{sym, ◌∙◌, ◌-◌, arith}
+use Rattle.ends_laws.specs.Loops.{turning_none, turning_more, turning_all}
+use Rattle.ends_laws.specs.Undo.{undo_place}
+use Rattle.ends.proofs.undo_places.Goals as goal
+
+pub loop-p-init : goal.loop-p-init
+loop-p-init c = turning_none c.requires
+
+pub undo_place-requires : goal.undo_place-requires
+undo_place-requires c = (c.loop-p.invariant.size, omega arith)
+
+pub loop-p-preserved : goal.loop-p-preserved
+loop-p-preserved c = let call = c.undo_place in
+    turning_more c.loop-p.invariant (omega arith) call.auto.words call.ensures
+
+pub shape_of-words : goal.shape_of-words
+shape_of-words c = c.loop-p.invariant.size ∙ sym c.requires
+
+pub returns : goal.returns
+returns c = turning_all c.loop-p.invariant c.loop-p-test.false
