@@ -75,8 +75,8 @@ pub fn digit_values() -> DigitValues
 // The number of the digits from a place of the line up to another, at most eight. A character that is no digit makes it
 // NO_DIGIT or more, so that one test tells of all.
 fn number(values: &DigitValues, line: &[u8], from: usize, end: usize) -> u64
-    requires values_value { values.now ≡ digit_values }
-    requires from_le_end { (from ≤ end) × (end ≤ length line.now) × (end ≤ from + 8) }
+    requires digits { values.now ≡ digit_values }
+    requires within { (from ≤ end) × (end ≤ length line.now) × (end ≤ from + 8) }
     ensures { result ≡ sum_in (field from end line.now) }
 {
     let mut number = 0;
@@ -188,8 +188,8 @@ pub fn read(values: &DigitValues, line: &[u8]) -> Parsed
 
 // Writes a number as so many digits at a place of the room. The last digit comes first: it is what a division leaves.
 fn put(characters: &[u8; 16], room: &mut [u8], at: usize, count: usize, number: u64)
-    requires characters_value { characters.now ≡ digit_characters }
-    requires count_in_bounds { at + count ≤ length room.old }
+    requires digits { characters.now ≡ digit_characters }
+    requires within { at + count ≤ length room.old }
     ensures { room.new ≡ over room.old at (digits count number) }
 {
     let mut rest = number;

@@ -66,8 +66,8 @@ fn bad(text: &[u8]) -> Answered
 // Answers the first line of a text. Where the text begins with a frame, that is the line, and nothing looks for its end.
 // What is read is asked at once: to hand it on from a function of its own costs as much as to read it.
 fn first(values: &DigitValues, words: &mut [u64], text: &[u8]) -> Answered
-    requires values_value { values.now ≡ digit_values }
-    requires t { T (sound_words words.old) × (0 < length text.now) }
+    requires digits { values.now ≡ digit_values }
+    requires ready { T (sound_words words.old) × (0 < length text.now) }
     ensures { FirstActed words.old text.now result words.new }
 {
     if text.len() < FRAME {
@@ -91,8 +91,8 @@ fn step(
     answers: &mut [u8],
     to: usize,
 ) -> usize
-    requires values_value { values.now ≡ digit_values }
-    requires t { T (sound_words words.old) × (0 < length text.now) × (to + 19 ≤ length answers.old) }
+    requires digits { values.now ≡ digit_values }
+    requires ready { T (sound_words words.old) × (0 < length text.now) × (to + 19 ≤ length answers.old) }
     ensures { Stepped words.old text.now answers.old to result words.new answers.new }
 {
     let line = first(values, words, text);

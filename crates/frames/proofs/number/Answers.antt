@@ -14,7 +14,7 @@ module _ (c : After-shared_slice_known-1) where
 
   -- what the table has for it
   found : get_or c.args.values.now byte 0 ≡ value_of byte
-  found = value_at c.requires.values_value byte is_byte
+  found = value_at c.requires.digits byte is_byte
 
   fits : c.loop-i.number * 16 + value_of byte < 2 ^ 64
   fits =

@@ -13,7 +13,7 @@ loop-left-preserved c = let place = c.args.at in
     let one_less : suc (c.loop-left.left - 1) ≡ c.loop-left.left = omega arith in (
       omega arith,
       simp length-set (omega arith),
-      rw (character_at c.requires.characters_value (c.loop-left.rest % 16) (omega arith))
+      rw (character_at c.requires.digits (c.loop-left.rest % 16) (omega arith))
           (over_digit c.loop-left.room place (c.loop-left.left - 1) c.loop-left.rest (omega arith)
           ∙ ap (λ k. over c.loop-left.room place (digits k c.loop-left.rest)) one_less
           ∙ c.loop-left.invariant.2),

@@ -14,11 +14,11 @@ after-value c = c.put.auto.room ∙ simp length-set
 
 pub put-requires : goal.put-requires
 unfolding digit_characters row
-put-requires c = record { characters_value = refl; count_in_bounds = simp length-set (omega arith) }
+put-requires c = record { digits = refl; within = simp length-set (omega arith) }
 
 pub put-requires-2 : goal.put-requires-2
 unfolding digit_characters row
-put-requires-2 c = record { characters_value = refl; count_in_bounds = omega (arith, after-value (goal.at.put-requires-2 c).After-put) }
+put-requires-2 c = record { digits = refl; within = omega (arith, after-value (goal.at.put-requires-2 c).After-put) }
 
 pub shape_of-room : goal.shape_of-room
 shape_of-room c = c.put-2.auto.room ∙ after-value (goal.at.shape_of-room c).After-put
