@@ -1,0 +1,37 @@
+-- `maruvoog::mv_run` meets its contract: on words that the test finds sound the lines are run, and otherwise the words and
+-- the room are left as they are.
+-- Assumes nothing.
+use Rattle.std.proofs.Common.{◌≡◌, sym, ◌∙◌, true, false, List, ℕ, rules}
+use Rattle.rules.specs.Answers as rules
+use Rattle.rules.specs.Layout.{sound_words}
+use Rattle.rules.specs.Session.{run_words}
+use Rattle.basics.specs.Logic.{from_true}
+use Rattle.runs.specs.declared.Ran.{Ran}
+use Rattle.runs.specs.Ran.{RanLines}
+use Rattle.maruvoog.specs.Promised.{Runs}
+use Rattle.maruvoog.proofs.mv_run.Goals.{Then-sound}
+use Rattle.maruvoog.proofs.mv_run.Goals as goal
+
+on_sound : (ws text room vs filled : List ℕ) (r : Ran) → sound_words ws ≡ true → RanLines ws text room r vs filled
+    → Runs (run_words ws text room) (record { number = 0; value = r.lines }) vs filled
+unfolding run_words
+on_sound ws text room vs filled r e ran =
+    record { answer = rw (e, ran.lines); words = rw e ran.left; room = rw (e, ← ran.lines) ran.answers }
+
+on_unsound : (ws text room : List ℕ) → sound_words ws ≡ false
+    → Runs (run_words ws text room) (record { number = 1; value = 0 }) ws room
+unfolding run_words rules.number_of
+on_unsound ws text room e = record { answer = rw e; words = rw e; room = rw e }
+
+-- where the test passed, the words are sound
+found-sound : (c : Then-sound) → sound_words c.args.words.now ≡ true
+found-sound c = sym c.sound.ensures ∙ c.if-sound.true
+
+pub run-ran-requires : goal.run-ran-requires
+run-ran-requires c = from_true _ (found-sound (goal.at.run-ran-requires c).Then-sound)
+
+pub returns-then-sound : goal.returns-then-sound
+returns-then-sound c = on_sound _ _ _ _ _ _ (found-sound (goal.at.returns-then-sound c).Then-sound) c.run-ran.ensures
+
+pub returns-else-sound : goal.returns-else-sound
+returns-else-sound c = on_unsound _ _ _ (sym c.sound.ensures ∙ c.if-sound.false)

@@ -1,0 +1,34 @@
+-- `maruvoog::one` meets its contract: on words that the test finds sound the call is done, and others are left as they are.
+-- Assumes nothing.
+use Rattle.std.proofs.Common.{◌≡◌, sym, ◌∙◌, true, false, List, ℕ, rules}
+use borrow.Author.Tests.{not-false}
+use Rattle.rules.specs.Answers as rules
+use Rattle.rules.specs.Layout.{sound_words}
+use Rattle.rules.specs.Session.{call_words}
+use Rattle.basics.specs.Logic.{from_true}
+use Rattle.calls.specs.declared.Answer.{Answer}
+use Rattle.acts.specs.Acted.{Acted}
+use Rattle.maruvoog.specs.Promised.{Leaves}
+use Rattle.maruvoog.proofs.one.Goals.{Else-not-sound}
+use Rattle.maruvoog.proofs.one.Goals as goal
+
+on_sound : (ws vs : List ℕ) (q : rules.Call) (a : Answer) → sound_words ws ≡ true → Acted ws q a vs → Leaves (call_words ws q) a vs
+unfolding call_words
+on_sound ws vs q a e acted = record { answer = rw e acted.answered; words = rw e acted.left }
+
+on_unsound : (ws : List ℕ) (q : rules.Call) → sound_words ws ≡ false → Leaves (call_words ws q) (record { number = 1; value = 0 }) ws
+unfolding call_words rules.number_of
+on_unsound ws q e = record { answer = rw e; words = rw e }
+
+-- where the test passed, the words are sound
+found-sound : (c : Else-not-sound) → sound_words c.args.words.now ≡ true
+found-sound c = sym c.sound.ensures ∙ c.if-not-sound.false
+
+pub returns-then-not-sound : goal.returns-then-not-sound
+returns-then-not-sound c = on_unsound _ _ (sym c.sound.ensures ∙ c.if-not-sound.true)
+
+pub call-requires : goal.call-requires
+call-requires c = (from_true _ (found-sound (goal.at.call-requires c).Else-not-sound), c.requires)
+
+pub returns : goal.returns
+returns c = on_sound _ _ _ _ (found-sound (goal.at.returns c).Else-not-sound) c.call.ensures
