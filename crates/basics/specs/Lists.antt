@@ -1,13 +1,13 @@
 -- Tests over a list's elements as what they say, and how they fare under `++`, `keep`, `leading` and one element more.
 -- Rests on the rules' Tests and on Logic. Assumes nothing.
-use Rattle.std.specs.Prelude.{◌≡◌, Bool, not, ◌&&◌, ◌⊎◌, ◌↔◌, ℕ, zero, suc, ◌+◌, ◌≤◌, ◌<◌, length, get_or}
+use Rattle.std.specs.Prelude.{◌≡◌, Bool, ◌⊎◌, ◌↔◌, ℕ, zero, suc, ◌<◌, length, get_or}
 use Rattle.std.proofs.Math.Path.{refl, ap, subst}
-use Rattle.std.proofs.Common.{sym, ◌∙◌, inl, inr, ⊎_elim, le_refl, not-suc-le-zero, zero-lt-suc, arith, length-append}
+use Rattle.std.proofs.Common.{sym, ◌∙◌, inl, inr, not-suc-le-zero, zero-lt-suc, arith}
 use Rattle.std.proofs.Math.Bool.{true, false, cond}
-use mathlib.Core.List.{List, [], ◌∷◌, ◌++◌, map}
+use mathlib.Core.List.{List, [], ◌∷◌, ◌++◌}
 use Rattle.std.proofs.Math.Dec.{T}
 use Rattle.rules.specs.Tests.{all, neighbours, keep, leading, after_leading, last_or}
-use Rattle.basics.specs.Logic.{and_says, passes_or_fails, is_true, is_false, cond_true, cond_false}
+use Rattle.basics.specs.Logic.{and_says, passes_or_fails, cond_true, cond_false}
 
 module _ {A : Type 0} where
   -- ---- every element

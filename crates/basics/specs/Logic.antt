@@ -1,8 +1,8 @@
 -- What a test that passed says: `&&`, `||`, `not` and `⇒` as pairs, choices, refutations and functions. The sets of
 -- laws that end in ↔ are for `simp`, which turns a test into what it says.
 -- Rests on the rules' Tests. Assumes nothing.
-use Rattle.std.specs.Prelude.{◌≡◌, refl, Bool, true, false, not, cond, ◌&&◌, ◌||◌, ◌⊎◌, ◌↔◌, ℕ, suc, ◌≤◌, ◌<◌, T, eqb, ltb, leb}
-use Rattle.std.proofs.Common.{ap, subst, sym, inl, inr, eqb→eq, leb→le, le→leb, ltb→lt, lt→ltb}
+use Rattle.std.specs.Prelude.{◌≡◌, refl, Bool, true, false, not, cond, ◌&&◌, ◌||◌, ◌⊎◌, ◌↔◌, ℕ, ◌≤◌, ◌<◌, T, eqb, ltb, leb}
+use Rattle.std.proofs.Common.{subst, sym, inl, inr, eqb→eq, leb→le, le→leb, ltb→lt, lt→ltb}
 use Rattle.std.proofs.Math.Dec.{eqb_refl}
 use Rattle.rules.specs.Tests.{◌⇒◌}
 

@@ -1,18 +1,17 @@
 -- Tests over the numbers below a bound, for every bound: what `every` and `some_below` say, that `lowest` is the lowest,
 -- that `count` counts, what `row` holds.
 -- Rests on the rules' Tests and on Logic. Assumes nothing.
-use Rattle.std.specs.Prelude.{◌≡◌, Bool, true, false, not, cond, ◌&&◌, ◌||◌, ◌⊎◌, ◌↔◌, T, ltb, length, get_or}
+use Rattle.std.specs.Prelude.{◌≡◌, Bool, true, false, cond, ◌||◌, ◌⊎◌, ◌↔◌, T, ltb, length, get_or}
 use Rattle.std.proofs.Math.Path.{refl, ap, ap₂, sym}
-use Rattle.std.proofs.Common.{◌∙◌, subst, inl, inr, le_refl, lt_irrefl, lt_of_le_of_lt, not-suc-le-zero, arith, ltb→lt, lt→ltb, length-append, get_or-append-add}
+use Rattle.std.proofs.Common.{◌∙◌, subst, inl, inr, le_refl, lt_irrefl, lt_of_le_of_lt, not-suc-le-zero, arith, ltb→lt, lt→ltb, length-append}
 use Rattle.std.proofs.Math.Logic.{⊎_elim}
 use mathlib.Core.List.{List, [], ◌∷◌, ◌++◌}
 use Prim.Native.Nat.{ℕ, zero, suc, ◌+◌, ◌≤◌, ◌<◌}
 use Rattle.std.proofs.Math.Decide.{ℕ_discrete}
-use Rattle.std.proofs.Math.Arith.{lt_of_le-ne}
 use Rattle.std.proofs.Math.ListN.{get_or-append}
 use Rattle.std.proofs.Math.Seq.{get_or_at}
 use Rattle.rules.specs.Tests.{every, some_below, count, lowest, row}
-use Rattle.basics.specs.Logic.{and_says, or_says, is_true, is_false, cond_true, cond_false, passes_or_fails}
+use Rattle.basics.specs.Logic.{and_says, or_says, cond_true, cond_false, passes_or_fails}
 
 -- two numbers are the same, or not
 pub same_or_other : (m n : ℕ) → (m ≡ n) ⊎ (m ≡ n → ⊥)

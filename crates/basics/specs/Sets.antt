@@ -5,7 +5,7 @@ use Rattle.std.proofs.Common.{ap, ap₂, sym, ◌∙◌, subst, true≢false, in
 use Rattle.std.proofs.lemmas.Bool.{false≢true}
 use Rattle.std.proofs.Math.Nat.{zero-div, div-eq_of_lt}
 use Rattle.std.proofs.Math.Pow.{field, mod-mod-pow, high, low, split}
-use Rattle.rules.specs.Tests.{◌⇒◌, every, some_below}
+use Rattle.rules.specs.Tests.{◌⇒◌, some_below}
 use Rattle.rules.specs.Sets.{width, has, collect, with_member, without_member, within, meets}
 use Rattle.basics.specs.Logic.{equal_says, same_test, or_says, and_says, not_says, implies_says, passes_or_fails}
 use Rattle.basics.specs.Ranges.{below_suc, every_says, some_at, some_of}

@@ -1,6 +1,5 @@
 -- What the code's numbers, calls and answers stand for among the rules' numbers, calls and answers.
 -- Rests on the rules' Tables and Answers.
-use Rattle.std.specs.Prelude.{ℕ}
 use Rattle.rules.specs.Tables.{txn, obj, lsn}
 use Rattle.rules.specs.Tables as tables
 use Rattle.rules.specs.Answers.{is_start, is_read, is_write, is_prepare, is_save, is_commit, is_abort, is_settle, is_crash, is_restart, is_status, is_look}

@@ -2,14 +2,14 @@
 -- their history.
 -- Rests on the rules' History and Truth, and on sound_laws. Assumes nothing.
 use Rattle.std.specs.Prelude.{◌≡◌, refl, T}
-use Rattle.std.proofs.Common.{ap, sym, ◌∙◌}
+use Rattle.std.proofs.Common.{ap, sym}
 use Rattle.std.proofs.Math.Path.{subst}
 use mathlib.Core.List.{List, [], ◌∷◌, ◌++◌, append_assoc, append-nil}
 use Rattle.std.proofs.Math.Option.{Option, none, some}
 use Rattle.rules.specs.Tests.{all}
 use Rattle.rules.specs.Tables.{Tables, fresh}
 use Rattle.rules.specs.Sound.{sound}
-use Rattle.rules.specs.Answers.{Call, Answer, Outcome, call}
+use Rattle.rules.specs.Answers.{Call}
 use Rattle.rules.specs.Session.{asked}
 use Rattle.rules.specs.Runs.{fresh_sound}
 use Rattle.rules.specs.History.{Event, may_ask, tables_after, history}

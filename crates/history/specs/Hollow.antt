@@ -1,8 +1,8 @@
 -- A build that books at one commit and feigns another does not keep the log's truth: wherever it answers 00 to a commit
 -- and adds no record, its log is not the list of those told "committed".
 -- Rests on the rules' History and Truth. Assumes nothing.
-use Rattle.std.specs.Prelude.{◌≡◌, refl, Bool, true, false, cond, List, [], ◌∷◌, ◌++◌, ℕ, suc, ◌+◌, T, length}
-use Rattle.std.proofs.Common.{ap, sym, ◌∙◌, arith, length-append}
+use Rattle.std.specs.Prelude.{◌≡◌, refl, Bool, true, false, cond, List, [], ◌∷◌, ◌++◌, suc, T, length}
+use Rattle.std.proofs.Common.{ap, ◌∙◌, arith}
 use Rattle.std.proofs.Math.Option.{Option}
 use Rattle.rules.specs.Tables.{Txn}
 use Rattle.rules.specs.Answers.{is_commit, Call}

@@ -1,14 +1,14 @@
 -- The words that a host has are what the grown tables pack to: after a fresh call, and after each exported call, line or
 -- run of lines.
 -- Rests on the rules' Truth, on frames_laws, words_laws, promise and growth. Assumes nothing.
-use Rattle.std.specs.Prelude.{◌≡◌, refl, Bool, true, List, [], ◌∷◌, ◌++◌, map, ℕ, T, length}
-use Rattle.std.proofs.Common.{ap, sym, ◌∙◌, subst}
+use Rattle.std.specs.Prelude.{◌≡◌, refl, true, List, [], ◌∷◌, ◌++◌, map, ℕ, T, length}
+use Rattle.std.proofs.Common.{ap, sym, ◌∙◌}
 use Rattle.std.proofs.Math.Option.{Option, none, some}
 use Rattle.rules.specs.Tests.{all}
 use Rattle.rules.specs.Tables.{Tables, fresh}
 use Rattle.rules.specs.Sound.{sound}
 use Rattle.rules.specs.Steps.{restart}
-use Rattle.rules.specs.Answers.{Call, Outcome, order, fact, done_leaves, call}
+use Rattle.rules.specs.Answers.{Call, order, fact, done_leaves, call}
 use Rattle.rules.specs.Layout.{word_count, pack, unpack, sound_words}
 use Rattle.rules.specs.Frames.{in_width, read_frame}
 use Rattle.rules.specs.Session.{Left, Ran, asked, asked_words, line, call_words, fresh_words, line_words, answered, tables_after_lines, run_words}

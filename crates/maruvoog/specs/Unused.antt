@@ -1,7 +1,7 @@
 -- That the fields which a kind does not use are zero, kind by kind and in the open, so that a call made with them says it
 -- by itself.
 -- Rests on the rules' Frames, on calls' Meaning and refusals' Reasons. Assumes nothing.
-use Rattle.std.specs.Prelude.{◌≡◌, refl, ℕ, T}
+use Rattle.std.specs.Prelude.{◌≡◌, ℕ, T}
 use Rattle.rules.specs.Frames.{fields_of, unused_zero}
 use Rattle.calls.specs.declared.Kind.{Kind}
 use Rattle.calls.specs.declared.Kind.TheVariants.{Start, Read, Write, Prepare, Save, Commit, Abort, Settle, Crash, Restart, Status, Look}

@@ -1,13 +1,12 @@
 -- Prepare of an object by a live transaction, in the terms of the words and flags that the code tests.
 -- Rests on the rules' Answers and Layout, on decisions, and on Readings, Deciding and Naming. Assumes nothing.
 use mathlib.Core.Path.{◌≡◌, refl, ap, sym, ◌∙◌}
-use mathlib.Core.Bool.{Bool, true, false, not}
+use mathlib.Core.Bool.{Bool, true, false}
 use mathlib.Core.List.{List}
 use Prim.Native.Nat.{ℕ, ◌+◌, ◌≤◌, ◌<◌}
 use native.Mathlib.Omega.{arith}
 use lib.Dec.{T}
 use lib.ListN.{length}
-use borrow.Author.Tests.{not-true, not-false}
 use Rattle.rules.specs.Sets.{has}
 use Rattle.rules.specs.Tables.{Txn, Tables, txn, obj, object_count, chain_room, object, chain}
 use Rattle.rules.specs.Answers.{is_prepare, Call, lost, not_accessed, prepared_before, chain_full}

@@ -1,11 +1,11 @@
 -- The calls and their answers: for each kind the order of its refusals, for each answer number its fact, its value and
 -- what it leaves, and one definition for all calls: the first refusal in the order whose fact holds, else done.
 -- Rests on Tests, Sets, Tables, Sound, Falls and Steps.
-use Rattle.std.specs.Prelude.{Bool, true, false, not, cond, ◌&&◌, ◌||◌, List, [], ◌∷◌, ℕ, suc, ◌^◌, eqb, ltb, leb, length, get_or}
+use Rattle.std.specs.Prelude.{Bool, false, not, cond, ◌&&◌, ◌||◌, List, [], ◌∷◌, ℕ, suc, ◌^◌, eqb, ltb, leb, length}
 use Rattle.std.proofs.Math.Option.{Option, none, some}
 use Rattle.rules.specs.Tests.{every, all, some_below, lowest, least}
 use Rattle.rules.specs.Sets.{width, has}
-use Rattle.rules.specs.Tables.{Txn, Obj, Entry, Object, Live, Tables, txn, obj, nobody, same, object_count, place_count, chain_room, log_room, last_number, object, place, is_free, sets_of, is_live, chain}
+use Rattle.rules.specs.Tables.{Txn, Obj, Entry, Live, Tables, obj, nobody, same, object_count, place_count, chain_room, log_room, last_number, object, place, is_free, sets_of, is_live, chain}
 use Rattle.rules.specs.Sound.{sound}
 use Rattle.rules.specs.Steps.{start, read, write, prepare, save, commit, abort, fall_count, settle, settle_count, crash, crash_count, restart, live_count, status, look}
 

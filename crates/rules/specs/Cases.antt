@@ -2,12 +2,12 @@
 -- ten lines. Both are shown by computing them; each case also leaves sound tables.
 -- Rests on all of the definitions.
 use Rattle.std.specs.Prelude.{◌≡◌, refl, Bool, true, ◌&&◌, List, [], ◌∷◌, ◌++◌, ℕ, eqb}
-use Prim.Native.Char.{Char, code}
+use Prim.Native.Char.{code}
 use Prim.Native.String.{String, [] as no_text, ◌∷◌ as ◌before◌}
 use Rattle.rules.specs.Tests.{all}
 use Rattle.rules.specs.Tables.{Tables, fresh}
 use Rattle.rules.specs.Sound.{sound}
-use Rattle.rules.specs.Answers.{Call, Answer, Outcome, call}
+use Rattle.rules.specs.Answers.{Call, call}
 use Rattle.rules.specs.Frames.{fields_of, unused_zero, number_after, digits, kinds, call_in, is_frame, read_frame, write_answer}
 use Rattle.rules.specs.Session.{onto_first, lines, asked, line, answer_lines, session}
 use Rattle.rules.specs.Runs.{starts, reads, writes, prepares, saves, commits, aborts, crashes, restarts, status_of, looks, after}

@@ -1,11 +1,11 @@
 -- Histories: what was asked from fresh tables on, in order, with the answers; and what a history says was written,
 -- committed and found. Plain data: a reader can follow each definition with a call file in hand.
 -- Rests on Tables, Answers, Frames and Session.
-use Rattle.std.specs.Prelude.{Bool, true, false, cond, ◌&&◌, ◌||◌, List, [], ◌∷◌, ◌++◌, ℕ, eqb}
+use Rattle.std.specs.Prelude.{Bool, true, false, cond, ◌&&◌, ◌||◌, List, [], ◌∷◌, ℕ, eqb}
 use Rattle.std.proofs.Math.Option.{Option, none, some}
 use Rattle.rules.specs.Sets.{has}
 use Rattle.rules.specs.Tables.{Txn, Obj, Tables, same, object, sets_of, latest}
-use Rattle.rules.specs.Answers.{Kind, is_read, is_write, is_commit, same_kind, Call, Answer, Outcome}
+use Rattle.rules.specs.Answers.{Kind, is_read, is_write, is_commit, same_kind, Call, Answer}
 use Rattle.rules.specs.Frames.{in_width}
 use Rattle.rules.specs.Session.{asked}
 

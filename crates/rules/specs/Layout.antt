@@ -1,9 +1,9 @@
 -- The run of words that the host lends, and the tables that it holds: words to tables and back, and which runs of
 -- words are sound. docs/LAYOUT.md has the same places as a table.
 -- Rests on Tests, Tables and Sound.
-use Rattle.std.specs.Prelude.{Bool, not, cond, ◌&&◌, List, [], ◌∷◌, ◌++◌, map, ℕ, ◌+◌, ◌*◌, ◌/◌, ◌%◌, min, eqb, leb, length, get_or}
+use Rattle.std.specs.Prelude.{Bool, ◌&&◌, List, [], ◌∷◌, ◌++◌, ℕ, ◌+◌, ◌*◌, ◌/◌, ◌%◌, min, eqb, leb, length, get_or}
 use Rattle.rules.specs.Tests.{◌⇒◌, every, row}
-use Rattle.rules.specs.Tables.{Txn, Lsn, Version, Entry, Object, Live, Tables, txn, lsn, obj, nobody, object_count, place_count, chain_room, log_room, object, place, chain}
+use Rattle.rules.specs.Tables.{Version, Entry, Object, Live, Tables, txn, lsn, obj, nobody, object_count, place_count, chain_room, log_room, object, place, chain}
 use Rattle.rules.specs.Sound.{sound}
 
 -- ---- the places: the next number, the records' count, the log, a column of 32 words for each field, the chains

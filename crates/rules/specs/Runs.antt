@@ -8,7 +8,7 @@ use Rattle.rules.specs.Tables.{Tables, txn, obj, fresh, place_of, is_live, log_n
 use Rattle.rules.specs.Sound.{rises, distinct, holds, rules, sound}
 use Rattle.rules.specs.Falls.{and_dependents, rounds, fallen, how_many, falls}
 use Rattle.rules.specs.Steps.{free_places, start, take_lock, access, read, set_working, write, prepare, save, commit, undone, undo, abort, fall_count, settled, settle, settle_count, crash, crash_count, durable, restart, live_count, status, look}
-use Rattle.rules.specs.Answers.{Kind, is_start, is_read, is_write, is_prepare, is_save, is_commit, is_abort, is_settle, is_crash, is_restart, is_status, is_look, kind_number, Call, number_of, order, is_lost, is_out_of_range, fact, refusal_value, refusal_leaves, done_value, done_leaves, Answer, Outcome, first, outcome, refusal, call}
+use Rattle.rules.specs.Answers.{Kind, is_start, is_read, is_write, is_prepare, is_save, is_commit, is_abort, is_settle, is_crash, is_restart, is_status, is_look, kind_number, Call, number_of, order, is_lost, is_out_of_range, fact, refusal_value, refusal_leaves, done_value, done_leaves, first, outcome, refusal, call}
 
 -- ---- the calls
 

@@ -1,7 +1,7 @@
 -- What whole calls give: a call on lent words, the fresh call, a line, a whole text of lines, and a run of many lines on
 -- lent words.
 -- Rests on Tables, Answers, Layout and Frames.
-use Rattle.std.specs.Prelude.{Bool, cond, List, [], ◌∷◌, ◌++◌, ℕ, ◌*◌, ◌/◌, eqb, length, take, drop}
+use Rattle.std.specs.Prelude.{cond, List, [], ◌∷◌, ◌++◌, ℕ, ◌*◌, ◌/◌, eqb, length, take, drop}
 use Rattle.std.proofs.Math.Option.{Option, none, some}
 use Rattle.rules.specs.Tables.{Tables, fresh}
 use Rattle.rules.specs.Answers.{Call, Answer, Outcome, Refusal, unsound, bad_frame, number_of, call}

@@ -1,10 +1,10 @@
 -- When tables are sound: one named rule for each thing that the paper asks, in its order, and `sound` where all hold.
 -- The ranges of the fields come first. A number of words and the words past a count are Layout's matter.
 -- Rests on Tests, Sets and Tables.
-use Rattle.std.specs.Prelude.{Bool, true, not, ◌&&◌, ◌||◌, List, [], ◌∷◌, map, ℕ, suc, ◌-◌, ◌^◌, eqb, ltb, leb, length, get_or}
+use Rattle.std.specs.Prelude.{Bool, true, not, ◌&&◌, ◌||◌, List, [], ◌∷◌, map, ℕ, suc, ◌^◌, eqb, ltb, leb, length}
 use Rattle.rules.specs.Tests.{◌⇒◌, every, all, neighbours}
 use Rattle.rules.specs.Sets.{width, has, within}
-use Rattle.rules.specs.Tables.{Txn, Lsn, Obj, Version, Entry, Object, Live, Tables, obj, txn, nobody, same, object_count, place_count, chain_room, log_room, last_number, object, place, is_free, place_of, is_live, sets_of, record_at, log_number, is_logged, chain, latest}
+use Rattle.rules.specs.Tables.{Txn, Lsn, Version, Entry, Object, Live, Tables, obj, nobody, same, object_count, place_count, chain_room, log_room, last_number, object, place, is_free, place_of, is_live, sets_of, record_at, log_number, is_logged, chain, latest}
 
 -- the rules' names
 pub data Rule : Type 0 where

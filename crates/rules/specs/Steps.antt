@@ -3,7 +3,7 @@
 use Rattle.std.specs.Prelude.{Bool, not, cond, List, [], ◌∷◌, ◌++◌, map, ℕ, suc, eqb, length}
 use Rattle.rules.specs.Tests.{count, lowest, sum, row, keep, leading, after_leading, last_or}
 use Rattle.rules.specs.Sets.{has, collect, with_member, without_member}
-use Rattle.rules.specs.Tables.{Txn, Lsn, Obj, Version, Entry, Object, Live, Tables, txn, lsn, obj, nobody, same, object_count, place_count, free_place, object, place, with_object, with_place, is_free, place_of, is_live, sets_of, log_number, is_logged, latest}
+use Rattle.rules.specs.Tables.{Txn, Obj, Version, Entry, Object, Live, Tables, txn, obj, nobody, object_count, place_count, free_place, object, place, with_object, with_place, is_free, place_of, is_live, sets_of, log_number, is_logged, latest}
 use Rattle.rules.specs.Falls.{fallen, how_many, falls}
 
 -- ---- parts of an object and of a place, set anew

@@ -1,7 +1,7 @@
 -- What the core holds: objects, live transactions, the log and the next number. A number 0 names no transaction, and
 -- a log number 0 no record. Transaction, log and object numbers are three types, so that none serves as another.
 -- Rests on Tests and Sets.
-use Rattle.std.specs.Prelude.{Bool, not, ◌&&◌, List, [], ◌++◌, ℕ, suc, pred, ◌-◌, eqb, ltb, leb, length, get_or, set, replicate}
+use Rattle.std.specs.Prelude.{Bool, not, ◌&&◌, List, [], ◌++◌, ℕ, suc, ◌-◌, eqb, ltb, leb, length, get_or, set, replicate}
 use Rattle.rules.specs.Tests.{lowest, last_or}
 
 -- a transaction number

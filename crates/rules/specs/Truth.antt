@@ -1,19 +1,19 @@
 -- Demand 3 as statements over the definitions, without their proofs (crate history proves each under its name):
 -- from fresh tables, over anything that may be asked, the log is the truth.
 -- Rests on History.
-use Rattle.std.specs.Prelude.{◌≡◌, Bool, true, not, ◌&&◌, List, [], ◌∷◌, ◌++◌, map, ◌⊎◌, ℕ, suc, ◌<◌, T, eqb, length}
-use Rattle.std.proofs.Math.Option.{Option, none, some}
+use Rattle.std.specs.Prelude.{◌≡◌, Bool, true, not, ◌&&◌, List, [], ◌∷◌, ◌++◌, map, ◌⊎◌, ℕ, ◌<◌, T, length}
+use Rattle.std.proofs.Math.Option.{Option, some}
 use Rattle.rules.specs.Tests.{all, every, row, some_below, ◌⇒◌}
 use Rattle.rules.specs.Sets.{has, within}
-use Rattle.rules.specs.Tables.{Txn, Lsn, Obj, Tables, txn, lsn, obj, nobody, fresh, fresh_object, free_place, object_count, place_count, object, place, is_free, is_live, sets_of, record_at, log_number, is_logged, Object, Live}
+use Rattle.rules.specs.Tables.{Txn, Tables, lsn, obj, nobody, fresh, free_place, object_count, place_count, object, place, is_free, is_live, record_at, log_number, is_logged}
 use Rattle.rules.specs.Sound.{distinct}
 use Rattle.rules.specs.Steps.{chained, unlocked, restart, status, look}
-use Rattle.rules.specs.Answers.{is_read, is_commit, Call, Answer, wrote_one_of, call, number_of, dependency_live}
+use Rattle.rules.specs.Answers.{is_read, is_commit, Call, wrote_one_of, call, number_of, dependency_live}
 use Rattle.rules.specs.Layout.{word_count, pack}
 use Rattle.rules.specs.Frames.{in_width, read_frame}
-use Rattle.rules.specs.Session.{asked, call_words, fresh_words, line_words, answered, run_words}
+use Rattle.rules.specs.Session.{call_words, fresh_words, line_words, answered, run_words}
 use Rattle.rules.specs.Runs.{commits}
-use Rattle.rules.specs.History.{Event, may_ask, tables_after, history, is_done, who_asks, last_accepted, committed, or_else, replay, is_access, found}
+use Rattle.rules.specs.History.{Event, may_ask, tables_after, history, is_done, last_accepted, committed, or_else, replay, is_access, found}
 
 -- a list of things that may be asked
 abbrev pub Asks : List (Option Call) → Type 0

@@ -12,7 +12,7 @@ use lib.Seq.{length-take-le, take_all, take_at, drop-append-add, drop-drop}
 use Rattle.rules.specs.Tables.{Tables}
 use Rattle.rules.specs.Sound.{sound}
 use Rattle.rules.specs.Frames.{write_answer}
-use Rattle.rules.specs.Layout.{word_count, pack, unpack, sound_words}
+use Rattle.rules.specs.Layout.{pack, unpack, sound_words}
 use Rattle.rules.specs.Session.{lines, line, answer_lines, answer_length, tables_after_lines, answered}
 use Rattle.frames_laws.specs.Lines as laws
 use Rattle.frames_laws.specs.Lines.{flat}

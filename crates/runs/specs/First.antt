@@ -1,13 +1,12 @@
 -- The first line of a text, and what its first 29 bytes tell of it: where they are a frame, they are that line, and where
 -- they are none, that line is none. And what it means that the first line was answered.
 -- Rests on the rules' Frames, on basics' Lists, on frames' Shape, and on Cut and Ran. Assumes nothing.
-use Rattle.std.specs.Prelude.{◌≡◌, refl, List, ℕ, ◌≤◌, ◌<◌, T, length, get_or, take}
+use Rattle.std.specs.Prelude.{◌≡◌, refl, List, ℕ, ◌<◌, T, length, get_or, take}
 use Rattle.std.proofs.Common.{sym, ap, ◌∙◌, arith, length-take, length-take-le, get_or-take}
 use Rattle.std.proofs.Math.Option.{Option, none, some}
 use Rattle.rules.specs.Answers.{Call}
 use Rattle.rules.specs.Frames.{frame_length, is_digit, read_frame}
 use Rattle.basics.specs.Lists.{all_says, All-at}
-use Rattle.calls.specs.declared.Answer.{Answer}
 use Rattle.frames.specs.Shape.{Shape, read_shape}
 use Rattle.runs.specs.declared.Answered.{Answered}
 use Rattle.runs.specs.Cut.{FirstLine, Unended, ends_at}

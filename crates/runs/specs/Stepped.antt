@@ -1,7 +1,6 @@
 -- What it means that the first line of a text was answered at a place of a room.
 -- Rests on the rules' Frames, Layout and Session, and on Cut.
 use Rattle.std.specs.Prelude.{◌≡◌, List, ◌++◌, ℕ, ◌+◌, take, drop}
-use Rattle.rules.specs.Answers.{Outcome}
 use Rattle.rules.specs.Frames.{write_answer}
 use Rattle.rules.specs.Layout.{pack, unpack}
 use Rattle.rules.specs.Session.{answer_length, line}

@@ -1,14 +1,14 @@
 -- Abort keeps tables sound: those that fall lose their locks, entries and places, and nobody who stays built on them.
 -- In a chain those that fall are the end of it, since each live entry depends on the one before.
 -- Rests on the rules' Falls and Steps, on basics, falls_laws, Means, Live, Chains and Places. Assumes nothing.
-use Rattle.std.specs.Prelude.{◌≡◌, refl, Bool, true, false, not, cond, ◌&&◌, ◌⊎◌, List, [], ◌∷◌, ◌++◌, eqb, length, get_or}
-use Rattle.std.proofs.Common.{ap, ap₂, sym, ◌∙◌, inl, inr, ⊎_elim, append_assoc, append-nil, arith, length-append}
+use Rattle.std.specs.Prelude.{◌≡◌, refl, Bool, true, false, not, cond, ◌⊎◌, List, ◌++◌}
+use Rattle.std.proofs.Common.{ap, sym, ◌∙◌, inl, inr, ⊎_elim, arith}
 use Rattle.std.proofs.Math.Path.{subst}
-use Prim.Native.Nat.{ℕ, suc, ◌≤◌, ◌<◌}
+use Prim.Native.Nat.{ℕ, ◌<◌}
 use Rattle.std.proofs.Math.Dec.{T}
-use Rattle.rules.specs.Tests.{row, keep, last_or}
+use Rattle.rules.specs.Tests.{row, keep}
 use Rattle.rules.specs.Sets.{has}
-use Rattle.rules.specs.Tables.{Txn, Entry, Object, Live, Tables, obj, nobody, object_count, place_count, fresh_object, free_place, object, place, place_of, is_live, sets_of, is_logged, chain, stable_entry, latest}
+use Rattle.rules.specs.Tables.{Txn, Entry, Object, Live, Tables, obj, nobody, object_count, place_count, fresh_object, free_place, object, place, place_of, is_live, sets_of, chain, stable_entry, latest}
 use Rattle.rules.specs.Sound.{depends_on}
 use Rattle.rules.specs.Falls.{fallen, falls}
 use Rattle.rules.specs.Steps.{unlocked, chained, undone, undo, abort}
@@ -16,8 +16,8 @@ use Rattle.basics.specs.Logic.{and_says, not_says, passes_or_fails, cond_true, c
 use Rattle.basics.specs.Ranges.{length_row, getD_row, same_or_other}
 use Rattle.basics.specs.Lists.{All, All-map, All-append, All-last, Neighbours, Neighbours-zip, keep_append, keep_pass, keep_all, keep_front, All-keep, pass_before}
 use Rattle.falls_laws.specs.Falls.{falls_along}
-use Rattle.sound_laws.specs.Means.{Other, Used, Held, Accounted, Linked, LoggedFirst, PlaceOk, ObjectOk, Sound}
-use Rattle.sound_laws.specs.Live.{At, same_txn, live_at, at_live, place_same, live_same, once, place_at, nobody_not_live}
+use Rattle.sound_laws.specs.Means.{Held, Accounted, Linked, LoggedFirst, PlaceOk, ObjectOk, Sound}
+use Rattle.sound_laws.specs.Live.{At, live_at, at_live, place_same, live_same, once, place_at}
 use Rattle.sound_laws.specs.Known.{logged_not_live, stable_not_live}
 use Rattle.sound_laws.specs.Chains.{Unlogged, parted, cut}
 use Rattle.sound_laws.specs.Places.{Alike, alike_ok, beside_ok}

@@ -1,19 +1,17 @@
 -- Read and write keep tables sound: the lock taken at first access, with its dependency, and the working value set.
 -- Rests on the rules' Steps, on basics, Means, Live, Known and Places. Assumes nothing.
-use Rattle.std.specs.Prelude.{◌≡◌, Bool, true, false, cond, ◌⊎◌, ◌↔◌, List, [], ◌∷◌, ◌++◌, ℕ, suc, ◌^◌, ◌≤◌, ◌<◌, length, get_or, set}
+use Rattle.std.specs.Prelude.{◌≡◌, Bool, true, false, cond, ◌⊎◌, ◌↔◌, List, ℕ, ◌^◌, ◌<◌, length, set}
 use Rattle.std.proofs.Math.Path.{refl, ap, subst}
-use Rattle.std.proofs.Common.{sym, ◌∙◌, inl, inr, ⊎_elim, arith, get_or-set_same}
+use Rattle.std.proofs.Common.{sym, ◌∙◌, inl, inr, ⊎_elim, get_or-set_same}
 use Rattle.std.proofs.Math.Dec.{T}
-use Rattle.rules.specs.Tests.{last_or}
 use Rattle.rules.specs.Sets.{width, has, with_member}
-use Rattle.rules.specs.Tables.{Txn, Obj, Entry, Object, Live, Tables, obj, object_count, place_count, fresh_object, object, place, place_of, is_live, sets_of, is_logged, chain, stable_entry, latest}
+use Rattle.rules.specs.Tables.{Txn, Entry, Object, Live, Tables, obj, object_count, place_count, fresh_object, object, place, place_of, is_live, sets_of, chain, stable_entry, latest}
 use Rattle.rules.specs.Sound.{depends_on}
 use Rattle.rules.specs.Steps.{held_by, and_depends_on, take_lock, access, set_working, read, write}
-use Rattle.basics.specs.Logic.{passes_or_fails, cond_true, cond_false}
 use Rattle.basics.specs.Lists.{All-last}
 use Rattle.basics.specs.Sets.{with_member_says, with_member_lt}
-use Rattle.sound_laws.specs.Means.{Used, Held, PlaceOk, ObjectOk, Sound}
-use Rattle.sound_laws.specs.Live.{At, same_txn, live_at, place_at, once}
+use Rattle.sound_laws.specs.Means.{Held, PlaceOk, ObjectOk, Sound}
+use Rattle.sound_laws.specs.Live.{At, same_txn, live_at}
 use Rattle.sound_laws.specs.Known.{latest_other}
 use Rattle.sound_laws.specs.Places.{Grown, set_here, set_place_of, set_live, unheld_ok, grown_ok, placed_sound}
 

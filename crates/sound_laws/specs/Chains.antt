@@ -1,17 +1,16 @@
 -- Objects whose chain, holder or working value changes while the log and the places stay: a chain cut short, saved,
 -- or one entry longer, and a lock freed.
 -- Rests on the rules' Tables, Sound and Steps, on basics, Means and Logged. Assumes nothing.
-use Rattle.std.specs.Prelude.{◌≡◌, refl, ◌⊎◌, ℕ, zero, suc, ◌+◌, ◌^◌, ◌≤◌, ◌<◌, get_or}
-use Rattle.std.proofs.Common.{ap, sym, ◌∙◌, inl, inr, ⊎_elim, le_trans, zero-lt-suc, arith, lit<, length-append}
+use Rattle.std.specs.Prelude.{◌≡◌, refl, ℕ, ◌^◌, ◌≤◌, ◌<◌}
+use Rattle.std.proofs.Common.{ap, sym, le_trans, arith, lit<, length-append}
 use Rattle.std.proofs.Math.Path.{subst}
-use mathlib.Core.List.{List, [], ◌∷◌, ◌++◌, map, append_assoc, append-nil}
+use mathlib.Core.List.{List, [], ◌∷◌, ◌++◌, map}
 use Rattle.std.proofs.Math.Dec.{T}
 use Rattle.std.proofs.Math.ListN.{length}
 use Rattle.rules.specs.Tests.{last_or}
-use Rattle.rules.specs.Sets.{has}
-use Rattle.rules.specs.Tables.{Txn, Lsn, Entry, Object, Live, chain_room, place, place_of, is_live, sets_of, log_number, is_logged, chain, stable_entry, latest}
+use Rattle.rules.specs.Tables.{Txn, Lsn, Entry, Object, Live, chain_room, is_live, log_number, is_logged, chain, stable_entry, latest}
 use Rattle.rules.specs.Sound.{depends_on}
-use Rattle.basics.specs.Lists.{All, All-map, All-zip, All-append, Neighbours, Neighbours-front, Neighbours-back, Neighbours-more}
+use Rattle.basics.specs.Lists.{All, All-zip, All-append, Neighbours, Neighbours-front}
 use Rattle.sound_laws.specs.Means.{Other, Distinct, Held, Accounted, Linked, LoggedFirst, Rises, ObjectOk}
 
 abbrev pub writers : List Entry → List Txn

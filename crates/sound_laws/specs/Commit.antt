@@ -1,21 +1,21 @@
 -- Commit keeps tables sound: the transaction's entries become logged, right after those that were, and nobody waits
 -- for it any more.
 -- Rests on the rules' Steps, on basics, Means, Live, Logged, Known and Chains. Assumes nothing.
-use Rattle.std.specs.Prelude.{◌≡◌, refl, Bool, true, false, not, cond, ◌⊎◌, List, [], ◌∷◌, ◌++◌, map, ℕ, suc, ◌+◌, ◌-◌, ◌≤◌, ◌<◌, eqb, length, get_or}
-use Rattle.std.proofs.Common.{ap, sym, ◌∙◌, subst, inl, inr, ⊎_elim, le_trans, arith}
+use Rattle.std.specs.Prelude.{◌≡◌, refl, cond, ◌⊎◌, List, [], ◌∷◌, ◌++◌, ℕ, suc, ◌-◌, ◌≤◌, ◌<◌, eqb, length, get_or}
+use Rattle.std.proofs.Common.{ap, sym, ◌∙◌, subst, inl, inr, ⊎_elim, arith}
 use Rattle.std.proofs.Math.Dec.{T}
 use Rattle.std.proofs.Math.ListN.{length-append, get_or-append}
-use Rattle.rules.specs.Tests.{last_or, row, leading, after_leading}
+use Rattle.rules.specs.Tests.{row, leading, after_leading}
 use Rattle.rules.specs.Sets.{width, has, without_member}
-use Rattle.rules.specs.Tables.{Txn, Lsn, Entry, Object, Live, Tables, obj, nobody, object_count, place_count, log_room, fresh_object, free_place, object, place, place_of, is_live, sets_of, record_at, log_number, is_logged, chain, latest}
+use Rattle.rules.specs.Tables.{Txn, Lsn, Entry, Live, Tables, obj, nobody, object_count, place_count, log_room, free_place, object, place, place_of, is_live, sets_of, log_number, is_logged, chain, latest}
 use Rattle.rules.specs.Sound.{depends_on}
 use Rattle.rules.specs.Steps.{struck, entry_logged, commit}
 use Rattle.basics.specs.Logic.{equal_says, passes_or_fails, cond_true, cond_false}
 use Rattle.basics.specs.Ranges.{length_row, getD_row, same_or_other}
-use Rattle.basics.specs.Lists.{All, All-map, All-zip, All-append, Neighbours, Neighbours-map, Neighbours-zip, Neighbours-back, Neighbours-front, leading_split, leading_pass, after_leading_fail}
+use Rattle.basics.specs.Lists.{All, All-map, All-zip, All-append, Neighbours, Neighbours-map, Neighbours-zip, Neighbours-back, leading_split, leading_pass, after_leading_fail}
 use Rattle.basics.specs.Sets.{has_zero, no_member, without_member_says, without_member_lt}
-use Rattle.sound_laws.specs.Means.{Other, Distinct, Used, Held, Given, Accounted, Linked, LoggedFirst, Rises, Named, PlaceOk, ObjectOk, Sound}
-use Rattle.sound_laws.specs.Live.{At, same_txn, live_at, at_live, place_same, live_same, once, place_at}
+use Rattle.sound_laws.specs.Means.{Other, Held, Given, Accounted, Linked, LoggedFirst, Rises, PlaceOk, ObjectOk, Sound}
+use Rattle.sound_laws.specs.Live.{At, same_txn, live_at, place_same, live_same, once, place_at}
 use Rattle.sound_laws.specs.Logged.{logged_more, logged_new, logged_before, number_stays, number_next, number_at_most}
 use Rattle.sound_laws.specs.Known.{live_given, logged_not_live}
 use Rattle.sound_laws.specs.Chains.{Distinct-more, Unlogged, Rises-unlogged}

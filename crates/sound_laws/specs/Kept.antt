@@ -1,24 +1,24 @@
 -- Every call on sound tables leaves sound tables, refusals included. (That fresh tables are sound is computed in the
 -- rules' Runs.)
 -- Rests on the rules, on basics, answers_laws, Means and the steps' files beside this one. Assumes nothing.
-use Rattle.std.specs.Prelude.{◌≡◌, refl, Bool, true, false, cond, ◌&&◌, ◌||◌, ◌⊎◌, List, [], ◌∷◌, ◌++◌, ℕ, suc, ◌^◌, ◌≤◌, ◌<◌, T, eqb, ltb, leb, get_or}
+use Rattle.std.specs.Prelude.{◌≡◌, Bool, true, false, ◌&&◌, ◌||◌, List, [], ◌∷◌, ℕ, ◌^◌, ◌≤◌, ◌<◌, T, eqb, ltb, leb}
 use Rattle.std.proofs.Common.{ap, sym, ◌∙◌, subst, inl, inr, ⊎_elim, arith}
 use Rattle.std.proofs.Math.Bool.{not}
 use Rattle.std.proofs.Math.ListN.{length}
-use Rattle.rules.specs.Tests.{every, some_below, all}
-use Rattle.rules.specs.Sets.{width, has}
-use Rattle.rules.specs.Tables.{Txn, Obj, Entry, Object, Live, Tables, obj, nobody, same, object_count, place_count, chain_room, log_room, last_number, fresh, object, place, is_free, place_of, is_live, sets_of, chain}
+use Rattle.rules.specs.Tests.{some_below, all}
+use Rattle.rules.specs.Sets.{has}
+use Rattle.rules.specs.Tables.{Txn, Obj, Entry, Live, Tables, obj, nobody, same, object_count, place_count, chain_room, log_room, last_number, object, place, is_free, is_live, sets_of, chain}
 use Rattle.rules.specs.Sound.{sound}
 use Rattle.rules.specs.Steps.{abort}
 use Rattle.rules.specs.Answers.{Kind, is_start, is_read, is_write, is_prepare, is_save, is_commit, is_abort, is_settle, is_crash, is_restart, is_status, is_look, kind_number, wrote_one_of, Call, Refusal, unsound, no_such_object, never_given_out, no_longer_live, after_a_prepare, lost, wait, died, not_accessed, prepared_before, chain_full, unprepared, unsaved, dependency_live, log_full, places_full, numbers_spent, bad_frame, number_of, order, is_lost, is_out_of_range, fact, refusal_leaves, done_leaves, call}
 use Rattle.rules.specs.Frames.{in_width}
-use Rattle.basics.specs.Logic.{and_says, or_says, not_says, equal_says, at_most_says, below_says, passes_or_fails}
-use Rattle.basics.specs.Ranges.{every_of, not_every, some_of, same_or_other}
+use Rattle.basics.specs.Logic.{and_says, or_says, not_says, equal_says, at_most_says, below_says}
+use Rattle.basics.specs.Ranges.{not_every, some_of, same_or_other}
 use Rattle.basics.specs.Lists.{All, all_says, All-map}
 use Rattle.basics.specs.Sets.{has_zero}
 use Rattle.answers_laws.specs.Exactly.{IsFirst, one_number, Refused, Allowed, refused_or_done, refused_leaves, done_leaves_so}
-use Rattle.sound_laws.specs.Means.{Other, Distinct, Held, ObjectOk, Sound, means, tests}
-use Rattle.sound_laws.specs.Live.{same_txn, live_at}
+use Rattle.sound_laws.specs.Means.{Other, Distinct, Sound, means, tests}
+use Rattle.sound_laws.specs.Live.{same_txn}
 use Rattle.sound_laws.specs.Chains.{writers, writers_append, Distinct-apart}
 use Rattle.sound_laws.specs.Storage.{save_sound, settle_sound, crash_sound, restart_sound}
 use Rattle.sound_laws.specs.Start.{start_sound}

@@ -1,15 +1,14 @@
 -- The transactions that sound tables name: each was given out, and a logged one or the writer of a stable version is
 -- not live.
 -- Rests on the rules' Tables, on basics, Means, Live and Logged. Assumes nothing.
-use Rattle.std.specs.Prelude.{◌≡◌, refl, ◌⊎◌, List, [], ◌∷◌, ◌++◌, ℕ, suc, ◌+◌, ◌-◌, ◌≤◌, ◌<◌, length, get_or}
-use Rattle.std.proofs.Common.{ap, sym, ◌∙◌, subst, inl, inr, arith}
+use Rattle.std.specs.Prelude.{◌≡◌, ◌⊎◌, ℕ, ◌-◌, ◌<◌}
+use Rattle.std.proofs.Common.{sym, ◌∙◌, subst, inl, inr, arith}
 use Rattle.std.proofs.Math.Logic.{⊎_elim}
 use Rattle.std.proofs.Math.Dec.{T}
-use Rattle.rules.specs.Tests.{last_or}
 use Rattle.rules.specs.Sets.{has}
-use Rattle.rules.specs.Tables.{Txn, Version, Entry, Object, Tables, obj, nobody, object_count, object, place, place_of, is_live, sets_of, record_at, is_logged, chain, stable_entry, latest}
-use Rattle.basics.specs.Lists.{All, All-map, All-at, All-last}
-use Rattle.sound_laws.specs.Means.{Held, Given, Named, Accounted, ObjectOk, Sound}
+use Rattle.rules.specs.Tables.{Txn, Entry, Tables, obj, object_count, object, place, place_of, is_live, sets_of, record_at, is_logged, chain, stable_entry, latest}
+use Rattle.basics.specs.Lists.{All, All-map, All-last}
+use Rattle.sound_laws.specs.Means.{Held, Given, Accounted, Sound}
 use Rattle.sound_laws.specs.Live.{same_txn, live_at, nobody_not_live}
 use Rattle.sound_laws.specs.Logged.{of_logged, names_logged}
 

@@ -1,13 +1,13 @@
 -- Who is live and at which place: what `is_live` and `place_of` say, and when a change of the places leaves them as
 -- they are for a transaction.
 -- Rests on the rules' Tables, on basics and on Means. Assumes nothing.
-use Rattle.std.specs.Prelude.{◌≡◌, refl, Bool, not, ◌&&◌, ◌⊎◌, List, ℕ, ◌≤◌, ◌<◌, T, eqb, ltb}
-use Rattle.std.proofs.Common.{ap, sym, ◌∙◌, subst, inl, inr, ⊎_elim, lt_of_le_of_lt, arith}
+use Rattle.std.specs.Prelude.{◌≡◌, refl, Bool, not, ◌&&◌, ◌⊎◌, List, ℕ, ◌<◌, T, ltb}
+use Rattle.std.proofs.Common.{ap, sym, ◌∙◌, inl, inr, lt_of_le_of_lt, arith}
 use Rattle.rules.specs.Tests.{lowest}
 use Rattle.rules.specs.Tables.{Txn, Live, Tables, txn, nobody, same, place_count, place, place_of, is_live}
-use Rattle.basics.specs.Logic.{and_says, not_says, equal_says, below_says, same_test, passes_or_fails}
-use Rattle.basics.specs.Ranges.{IsLowest, lowest_is, lowest_at, one_lowest}
-use Rattle.sound_laws.specs.Means.{Used, PlaceOk, Sound}
+use Rattle.basics.specs.Logic.{and_says, not_says, equal_says, below_says, passes_or_fails}
+use Rattle.basics.specs.Ranges.{lowest_is, lowest_at, one_lowest}
+use Rattle.sound_laws.specs.Means.{Used, Sound}
 
 -- a transaction is its number
 pub same_txn : (x y : Txn) → x.num ≡ y.num → x ≡ y

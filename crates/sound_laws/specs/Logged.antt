@@ -1,19 +1,18 @@
 -- Who is logged and under which number: what `is_logged` and `log_number` say, and how one record more changes them.
 -- Rests on the rules' Tables, on basics, Means and Live. Assumes nothing.
-use Rattle.std.specs.Prelude.{◌≡◌, refl, Bool, not, ◌&&◌, ◌⊎◌, List, [], ◌∷◌, ◌++◌, eqb, ltb, leb, get_or}
+use Rattle.std.specs.Prelude.{◌≡◌, Bool, List, [], ◌∷◌, ◌++◌, get_or}
 use Rattle.std.proofs.Math.Path.{ap, sym, subst}
-use Rattle.std.proofs.Common.{◌∙◌, inl, inr, ⊎_elim, lt_of_le_of_lt, not-suc-le-zero, length-append}
-use Prim.Native.Nat.{ℕ, zero, suc, ◌+◌, ◌-◌, ◌≤◌, ◌<◌}
+use Rattle.std.proofs.Common.{◌∙◌, ⊎_elim, lt_of_le_of_lt, length-append}
+use Prim.Native.Nat.{ℕ, suc, ◌-◌, ◌≤◌, ◌<◌}
 use native.Mathlib.Omega.{arith}
 use Rattle.std.proofs.Math.Dec.{T}
 use Rattle.std.proofs.Math.ListN.{length, get_or-append}
 use Rattle.std.proofs.Math.Seq.{get_or-append_seam}
 use Rattle.rules.specs.Tests.{lowest}
-use Rattle.rules.specs.Tables.{Txn, Lsn, txn, lsn, nobody, same, record_at, log_number, is_logged}
+use Rattle.rules.specs.Tables.{Txn, lsn, nobody, same, record_at, log_number, is_logged}
 use Rattle.basics.specs.Logic.{equal_says, at_most_says}
 use Rattle.basics.specs.Ranges.{IsLowest, lowest_is, lowest_at, one_lowest, below_suc}
 use Rattle.basics.specs.Lists.{All, All-at}
-use Rattle.sound_laws.specs.Means.{Other, Distinct}
 use Rattle.sound_laws.specs.Live.{same_txn}
 
 -- record i + 1 names x

@@ -1,13 +1,13 @@
 -- What the rules of sound tables say, as facts to reason with: of the log, of the live transactions, of one object.
 -- `means` and `tests` carry `sound` to these facts and back.
 -- Rests on the rules' Sound, and on basics. Assumes nothing.
-use Rattle.std.specs.Prelude.{◌≡◌, true, false, ◌&&◌, ◌||◌, ◌⊎◌, ◌↔◌, List, [], ◌∷◌, ◌++◌, map, ℕ, suc, ◌-◌, ◌^◌, ◌≤◌, ◌<◌, T, ltb, length, get_or}
+use Rattle.std.specs.Prelude.{◌≡◌, true, false, ◌&&◌, ◌||◌, ◌⊎◌, ◌↔◌, List, [], ◌∷◌, map, ℕ, suc, ◌^◌, ◌≤◌, ◌<◌, T, ltb, length}
 use Rattle.std.proofs.Math.Bool.{Bool, not}
 use Rattle.std.proofs.Common.{inl, inr, ⊎_elim}
 use Rattle.std.proofs.Math.Dec.{eqb, leb}
 use Rattle.rules.specs.Tests.{◌⇒◌, every, all, neighbours}
 use Rattle.rules.specs.Sets.{width, has, within}
-use Rattle.rules.specs.Tables.{Txn, Lsn, Version, Entry, Object, Live, Tables, obj, nobody, same, object_count, place_count, chain_room, log_room, last_number, object, place, is_free, place_of, is_live, sets_of, record_at, log_number, is_logged, chain, latest}
+use Rattle.rules.specs.Tables.{Txn, Lsn, Version, Entry, Object, Live, Tables, obj, nobody, same, object_count, place_count, chain_room, log_room, last_number, object, place, is_free, is_live, sets_of, record_at, log_number, is_logged, chain, latest}
 use Rattle.rules.specs.Sound.{Rule, thirty_two_objects, thirty_two_places, log_fits, chains_fit, sets_fit, values_fit, next_in_range, logged_once, logged_given_out, logged_not_live, live_once, live_given_out, written_accessed, prepared_accessed, depends_on_live, depends_not_on_self, holder_live, holder_accessed, holder_unprepared, holder_depends_on_last, chain_once, chain_accounted, logged_first, logged_saved, logged_rise, entry_depends_on_last, stable_named, free_place_zero, free_object_zero, given_out, distinct, a_word, a_set, is_held, depends_on, accounted, linked, rises, is_fresh, is_named, holds, sound}
 use Rattle.basics.specs.Logic.{and_says, or_says, not_says, implies_says, equal_says, at_most_says, below_says}
 use Rattle.basics.specs.Ranges.{every_says}

@@ -1,14 +1,14 @@
 -- Places that change while the log stays: when an object that was sound is sound still, and when a place is.
 -- Rests on the rules' Tables and Sound, on basics, Means, Live and Chains. Assumes nothing.
-use Rattle.std.specs.Prelude.{◌≡◌, refl, ◌⊎◌, List, [], ◌∷◌, ◌++◌, map, ℕ, ◌≤◌, ◌<◌, T, length, get_or, set}
+use Rattle.std.specs.Prelude.{◌≡◌, refl, ◌⊎◌, List, ℕ, ◌<◌, T, length, get_or, set}
 use Rattle.std.proofs.Common.{ap, sym, ◌∙◌, subst, inl, inr, ⊎_elim, length-set, get_or-set_same, get_or-set_other}
 use Rattle.std.proofs.Math.Decide.{ℕ_discrete}
 use Rattle.rules.specs.Sets.{has}
-use Rattle.rules.specs.Tables.{Txn, Entry, Object, Live, Tables, obj, object_count, place_count, fresh_object, free_place, object, place, place_of, is_live, sets_of, is_logged, chain, latest}
+use Rattle.rules.specs.Tables.{Txn, Object, Live, Tables, obj, object_count, place_count, fresh_object, free_place, object, place, place_of, is_live, sets_of, chain, latest}
 use Rattle.rules.specs.Sound.{depends_on}
-use Rattle.basics.specs.Lists.{All, All-map, All-zip, Neighbours, Neighbours-map}
-use Rattle.sound_laws.specs.Means.{Used, Held, Accounted, Linked, PlaceOk, ObjectOk, Sound, anything}
-use Rattle.sound_laws.specs.Live.{At, live_at, at_live, place_same, live_same}
+use Rattle.basics.specs.Lists.{All, All-map, All-zip, Neighbours-map}
+use Rattle.sound_laws.specs.Means.{Used, Held, Accounted, PlaceOk, ObjectOk, Sound, anything}
+use Rattle.sound_laws.specs.Live.{live_at, place_same, live_same}
 
 -- ---- an object seen with other places
 

@@ -1,14 +1,13 @@
 -- Prepare keeps tables sound: the lock is freed, and a written object's working value is queued.
 -- Rests on the rules' Steps, on basics, Means, Live, Known, Chains, Places and Access. Assumes nothing.
-use Rattle.std.specs.Prelude.{◌≡◌, Bool, cond, ◌⊎◌, List, [], ◌∷◌, ◌++◌, ℕ, suc, ◌+◌, ◌^◌, ◌≤◌, ◌<◌, length, get_or, set}
+use Rattle.std.specs.Prelude.{◌≡◌, Bool, cond, List, [], ◌∷◌, ◌++◌, ℕ, suc, ◌^◌, ◌≤◌, ◌<◌, length, set}
 use Rattle.std.proofs.Math.Path.{refl, subst}
 use Rattle.std.proofs.Common.{ap, sym, ◌∙◌, inl, inr, append_assoc, append-nil, arith, length-append}
 use Rattle.std.proofs.Math.Bool.{true, false}
 use Rattle.std.proofs.Math.Logic.{⊎_elim}
 use Rattle.std.proofs.Math.Dec.{T}
-use Rattle.rules.specs.Tests.{last_or}
-use Rattle.rules.specs.Sets.{width, has, with_member}
-use Rattle.rules.specs.Tables.{Txn, Obj, Entry, Object, Live, Tables, obj, nobody, object_count, place_count, chain_room, object, place, place_of, is_live, sets_of, is_logged, chain, stable_entry, latest}
+use Rattle.rules.specs.Sets.{has, with_member}
+use Rattle.rules.specs.Tables.{Txn, Entry, Object, Live, Tables, obj, nobody, object_count, place_count, chain_room, object, place, place_of, is_live, sets_of, chain, stable_entry, latest}
 use Rattle.rules.specs.Sound.{depends_on}
 use Rattle.rules.specs.Steps.{unlocked, chained, prepare}
 use Rattle.basics.specs.Lists.{All, All-map, All-append, Neighbours, Neighbours-more}
@@ -17,7 +16,7 @@ use Rattle.sound_laws.specs.Means.{Other, Distinct, Held, Accounted, Linked, Log
 use Rattle.sound_laws.specs.Live.{same_txn, live_at}
 use Rattle.sound_laws.specs.Known.{logged_not_live}
 use Rattle.sound_laws.specs.Chains.{writers, writers_append, All-writers, Distinct-more, Unlogged, Rises-more, cut}
-use Rattle.sound_laws.specs.Places.{Grown, Alike, set_alike, set_here, set_place_of, set_live, unheld_ok, placed_sound}
+use Rattle.sound_laws.specs.Places.{set_alike, set_here, set_place_of, set_live, unheld_ok, placed_sound}
 use Rattle.sound_laws.specs.Access.{Holding}
 
 -- a free object whose chain gets one entry more

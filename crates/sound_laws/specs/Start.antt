@@ -1,18 +1,17 @@
 -- Start keeps tables sound.
 -- Rests on the rules' Steps, on basics, Means, Live, Known and Places. Assumes nothing.
-use Rattle.std.specs.Prelude.{◌≡◌, refl, Bool, ◌⊎◌, List, [], ◌∷◌, ◌++◌, ℕ, suc, ◌+◌, ◌-◌, ◌≤◌, ◌<◌, T, length, get_or, set}
-use Rattle.std.proofs.Common.{ap, sym, ◌∙◌, subst, inl, inr, ⊎_elim, le_refl, arith, lit<, length-set}
+use Rattle.std.specs.Prelude.{◌≡◌, refl, Bool, List, ℕ, suc, ◌≤◌, ◌<◌, T, length, set}
+use Rattle.std.proofs.Common.{ap, sym, ◌∙◌, subst, ⊎_elim, le_refl, arith, lit<, length-set}
 use Rattle.std.proofs.Math.Decide.{ℕ_discrete}
 use Rattle.rules.specs.Tests.{lowest}
 use Rattle.rules.specs.Sets.{has, collect}
-use Rattle.rules.specs.Tables.{Txn, Live, Tables, obj, txn, object_count, place_count, last_number, object, place, is_free, place_of, is_live, sets_of}
-use Rattle.rules.specs.Sound.{depends_on}
+use Rattle.rules.specs.Tables.{Txn, Live, Tables, obj, txn, place_count, last_number, object, place, is_free, place_of, is_live, sets_of}
 use Rattle.rules.specs.Steps.{free_places, start}
 use Rattle.basics.specs.Logic.{equal_says}
 use Rattle.basics.specs.Ranges.{lowest_at, same_or_other}
 use Rattle.basics.specs.Lists.{All-map, All-zip}
 use Rattle.basics.specs.Sets.{has_collect, has_zero}
-use Rattle.sound_laws.specs.Means.{Used, PlaceOk, ObjectOk, Sound}
+use Rattle.sound_laws.specs.Means.{Used, PlaceOk, Sound}
 use Rattle.sound_laws.specs.Live.{live_at, place_same, live_same}
 use Rattle.sound_laws.specs.Known.{live_given, writers_known, latest_known, holder_known}
 use Rattle.sound_laws.specs.Places.{Alike, alike_ok, set_here, set_elsewhere}

@@ -1,22 +1,21 @@
 -- The steps of storage keep tables sound: save, settle, crash and restart.
 -- Rests on the rules' Steps, on basics, Means, Logged and Chains. Assumes nothing.
-use Rattle.std.specs.Prelude.{◌≡◌, Bool, ◌⊎◌, T, length, get_or, set}
+use Rattle.std.specs.Prelude.{◌≡◌, Bool, T, length, get_or, set}
 use Rattle.std.proofs.Math.Path.{refl, subst}
-use Rattle.std.proofs.Common.{ap, sym, ◌∙◌, inl, inr, ⊎_elim, le_trans, arith, lit<, length-append, length-set, get_or-set_same, get_or-set_other}
+use Rattle.std.proofs.Common.{ap, sym, ◌∙◌, inr, le_trans, arith, lit<, length-append, length-set, get_or-set_same, get_or-set_other}
 use Rattle.std.proofs.Math.Bool.{true, false, cond}
 use mathlib.Core.List.{List, [], ◌∷◌, ◌++◌, map, append_assoc, append-nil}
-use Prim.Native.Nat.{ℕ, zero, suc, ◌+◌, ◌-◌, ◌^◌, ◌≤◌, ◌<◌}
+use Prim.Native.Nat.{ℕ, ◌^◌, ◌<◌}
 use Rattle.std.proofs.Math.Decide.{ℕ_discrete}
 use Rattle.rules.specs.Tests.{last_or, keep, leading, after_leading, row}
 use Rattle.rules.specs.Sets.{has}
-use Rattle.rules.specs.Tables.{Txn, Lsn, Version, Entry, Object, Live, Tables, obj, nobody, object_count, place_count, chain_room, fresh_object, free_place, object, place, with_object, place_of, is_live, log_number, is_logged, chain, stable_entry, latest}
+use Rattle.rules.specs.Tables.{Txn, Version, Entry, Object, Live, Tables, obj, nobody, object_count, place_count, fresh_object, free_place, object, place, with_object, place_of, is_live, chain, stable_entry, latest}
 use Rattle.rules.specs.Sound.{depends_on}
-use Rattle.rules.specs.Steps.{unlocked, chained, save, version_of, entry_logged, settled, settle, crashed, crash, durable, restart}
-use Rattle.basics.specs.Logic.{passes_or_fails, cond_true, cond_false}
+use Rattle.rules.specs.Steps.{chained, save, version_of, entry_logged, settled, settle, crashed, crash, durable, restart}
 use Rattle.basics.specs.Ranges.{length_row, getD_row}
 use Rattle.basics.specs.Lists.{All, All-map, All-append, All-last, Neighbours, Neighbours-front, Neighbours-back, last_append, keep_front, keep_pass, leading_split, leading_pass, after_leading_fail, after_leading_none}
 use Rattle.basics.specs.Sets.{has_zero}
-use Rattle.sound_laws.specs.Means.{Distinct, Held, Accounted, Linked, LoggedFirst, Named, PlaceOk, ObjectOk, LogOk, Sound}
+use Rattle.sound_laws.specs.Means.{Distinct, Held, Accounted, Linked, LoggedFirst, Named, PlaceOk, ObjectOk, Sound}
 use Rattle.sound_laws.specs.Live.{live_at}
 use Rattle.sound_laws.specs.Logged.{number_positive, number_at_most, record_names}
 use Rattle.sound_laws.specs.Chains.{writers, writers_append, Distinct-back, Unlogged, Rises-unlogged, First-unlogged, parted, cut}

@@ -1,13 +1,12 @@
 -- Writing words: what a run of words shows after one word is written, and when what it shows is what tables hold. A step
 -- that writes words is held against the rules by comparing two views, place by place; where words lie is settled here.
 -- Rests on the rules' Layout, on basics and on Says. Assumes nothing.
-use Rattle.std.specs.Prelude.{◌≡◌, refl, Bool, true, false, cond, ◌&&◌, ◌⊎◌, List, [], ◌∷◌, ◌++◌, ℕ, ◌+◌, ◌*◌, ◌/◌, ◌%◌, ◌≤◌, ◌<◌, T, eqb, length, get_or, set}
-use Rattle.std.proofs.Common.{ap, ap₂, sym, ◌∙◌, subst, inl, inr, ⊎_elim, arith, length-set, get_or-set_same, get_or-set_other}
-use Rattle.rules.specs.Tables.{Txn, Entry, Object, Live, Tables, obj, nobody, object_count, place_count, chain_room, log_room, fresh_object, free_place, object, place, chain}
+use Rattle.std.specs.Prelude.{◌≡◌, refl, Bool, true, false, cond, ◌&&◌, List, ℕ, ◌+◌, ◌*◌, ◌<◌, T, eqb, length, get_or, set}
+use Rattle.std.proofs.Common.{ap, ap₂, sym, ◌∙◌, arith, length-set, get_or-set_same, get_or-set_other}
+use Rattle.rules.specs.Tables.{Tables, obj, nobody, object_count, chain_room, log_room, object, chain}
 use Rattle.rules.specs.Layout.{next_at, log_count_at, log_at, chain_value_at, chain_writer_at, word_count, no_entry, pack, word}
-use Rattle.basics.specs.Logic.{and_says, equal_says, cond_true, cond_false}
-use Rattle.basics.specs.Ranges.{same_or_other}
-use Rattle.words_laws.specs.Says.{Column, number, accessed, written, prepared, depends, stable_value, stable_writer, stable_number, holder, working, saved_count, queued_count, start, cell, column_size, Says, pack_says, says_packed}
+use Rattle.basics.specs.Logic.{and_says, equal_says}
+use Rattle.words_laws.specs.Says.{Column, number, accessed, written, prepared, depends, stable_value, stable_writer, stable_number, holder, working, saved_count, queued_count, start, cell, column_size, pack_says, says_packed}
 
 -- ---- views
 

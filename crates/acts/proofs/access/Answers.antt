@@ -24,10 +24,10 @@ either c b =
     cond b t (take_lock t (txn c.args.x.num) (obj c.args.o.num))
 
 -- which of them, by the word
-by-test : (c : Start) → access (unpack c.args.words.now) (txn c.args.x.num) (obj c.args.o.num)
+by_test : (c : Start) → access (unpack c.args.words.now) (txn c.args.x.num) (obj c.args.o.num)
     ≡ either c (has (word c.args.words.now (accessed_at + c.args.p)) c.args.o.num)
 unfolding access
-by-test c =
+by_test c =
     let ws = c.args.words.now in
     ap (λ (l : Live). either c (has l.accessed c.args.o.num))
     (ap (place (unpack ws).live) (sym c.requires.2) ∙ place_read ws c.args.p (at_place c))
@@ -48,8 +48,8 @@ pub lock-requires : goal.lock-requires
 lock-requires c = (c.requires.0, c.requires.1.below, c.requires.1.live, c.requires.2)
 
 pub returns-then-not-has : goal.returns-then-not-has
-returns-then-not-has c = c.lock.ensures ∙ sym (ap pack (by-test (goal.at.returns-then-not-has c).Start ∙ ap (either (goal.at.returns-then-not-has c).Start) (sym c.has.ensures ∙ c.if-not-has.true)))
+returns-then-not-has c = c.lock.ensures ∙ sym (ap pack (by_test (goal.at.returns-then-not-has c).Start ∙ ap (either (goal.at.returns-then-not-has c).Start) (sym c.has.ensures ∙ c.if-not-has.true)))
 
 pub returns-else-not-has : goal.returns-else-not-has
 returns-else-not-has c = let start : Start = (goal.at.returns-else-not-has c).Start in
-    sym (ap pack (by-test start ∙ ap (either start) (sym c.has.ensures ∙ c.if-not-has.false)) ∙ words_again c.args.words.now c.requires.0)
+    sym (ap pack (by_test start ∙ ap (either start) (sym c.has.ensures ∙ c.if-not-has.false)) ∙ words_again c.args.words.now c.requires.0)

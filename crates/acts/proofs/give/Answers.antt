@@ -30,8 +30,8 @@ asked c = call_of c.args.c
 abbrev kind : Start → Kind
 kind c = (asked c).kind
 
-sound-at : (c : Start) → Sound (tables c)
-sound-at c = sound_in c.args.words.now c.requires.0
+sound_at : (c : Start) → Sound (tables c)
+sound_at c = sound_in c.args.words.now c.requires.0
 
 unchanged : (c : Start) → c.args.words.now ≡ pack (tables c)
 unchanged c = sym (words_again c.args.words.now c.requires.0)
@@ -49,7 +49,7 @@ there : (c : Start) → T (is_live (tables c).live (asked c).who) → c.args.p �
 there c = there_live (tables c).live (asked c).who c.args.p c.requires.2
 
 looked : (c : Start) → kind c ≡ is_look → (asked c).what.num < object_count
-looked c e = look_object (tables c) (asked c) (sound-at c) e c.requires.1
+looked c e = look_object (tables c) (asked c) (sound_at c) e c.requires.1
 
 pub start-requires : goal.start-requires
 start-requires c = let start : Start = (goal.at.start-requires c).Start in
@@ -60,13 +60,13 @@ start-requires c = let start : Start = (goal.at.start-requires c).Start in
 pub read-requires : goal.read-requires
 read-requires c = let start : Start = (goal.at.read-requires c).Start in
     let e : kind start ≡ is_read = ap kind_of c.in-Read.is in
-    let may = read_may (tables start) (asked start) (sound-at start) e c.requires.1 in
+    let may = read_may (tables start) (asked start) (sound_at start) e c.requires.1 in
     (c.requires.0, may, there start may.live)
 
 pub write-requires : goal.write-requires
 write-requires c = let start : Start = (goal.at.write-requires c).Start in
     let e : kind start ≡ is_write = ap kind_of c.in-Write.is in
-    let may = write_may (tables start) (asked start) (sound-at start) e c.requires.1 in
+    let may = write_may (tables start) (asked start) (sound_at start) e c.requires.1 in
     (c.requires.0, may, there start may.live)
 
 pub prepare-requires : goal.prepare-requires
@@ -74,7 +74,7 @@ prepare-requires c = let start : Start = (goal.at.prepare-requires c).Start in
     let e : kind start ≡ is_prepare = ap kind_of c.in-Prepare.is in
     let live = prepare_live (tables start) (asked start) e c.requires.1 in (
       c.requires.0,
-      prepare_object (tables start) (asked start) (sound-at start) e c.requires.1,
+      prepare_object (tables start) (asked start) (sound_at start) e c.requires.1,
       live,
       there start live,
       prepare_room (tables start) (asked start) e c.requires.1,
@@ -83,7 +83,7 @@ prepare-requires c = let start : Start = (goal.at.prepare-requires c).Start in
 pub save-requires : goal.save-requires
 save-requires c = let start : Start = (goal.at.save-requires c).Start in
     let e : kind start ≡ is_save = ap kind_of c.in-Save.is in
-    (c.requires.0, save_object (tables start) (asked start) (sound-at start) e c.requires.1)
+    (c.requires.0, save_object (tables start) (asked start) (sound_at start) e c.requires.1)
 
 pub commit-requires : goal.commit-requires
 commit-requires c = let start : Start = (goal.at.commit-requires c).Start in
@@ -99,7 +99,7 @@ fall-requires c = let start : Start = (goal.at.fall-requires c).Start in
 pub settle-requires : goal.settle-requires
 settle-requires c = let start : Start = (goal.at.settle-requires c).Start in
     let e : kind start ≡ is_settle = ap kind_of c.in-Settle.is in
-    (c.requires.0, settle_object (tables start) (asked start) (sound-at start) e c.requires.1)
+    (c.requires.0, settle_object (tables start) (asked start) (sound_at start) e c.requires.1)
 
 pub crash-requires : goal.crash-requires
 crash-requires c = let start : Start = (goal.at.crash-requires c).Start in

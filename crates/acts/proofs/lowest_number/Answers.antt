@@ -1,4 +1,4 @@
-use Rattle.std.proofs.Common.{◌≡◌, refl, ap, ap₂, ◌∙◌, ℕ, ◌-◌, add-one, arith}
+use Rattle.std.proofs.Common.{◌≡◌, refl, ap, ap₂, ◌∙◌, ℕ, add-one, arith}
 use Rattle.rules.specs.Tests.{lower, least}
 use Rattle.rules.specs.Tables.{place_count}
 use Rattle.acts.proofs.lowest_number.Invariants.{among}

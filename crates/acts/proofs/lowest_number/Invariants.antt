@@ -1,6 +1,6 @@
 -- `acts::lowest_number` meets its contract. The loop's invariant: the number so far is the lowest at the places passed.
 -- Assumes nothing.
-use Rattle.std.proofs.Common.{◌≡◌, cond, List, ℕ, ◌-◌, ◌≤◌}
+use Rattle.std.proofs.Common.{◌≡◌, cond, List, ℕ, ◌≤◌}
 use Rattle.rules.specs.Tests.{least}
 use Rattle.rules.specs.Sets.{has}
 use Rattle.rules.specs.Tables.{place_count, place}

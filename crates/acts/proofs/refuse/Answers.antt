@@ -1,7 +1,7 @@
 -- `acts::refuse` meets its contract: lost and died are undone at the place of the transaction, which is live, and every other
 -- reason leaves the words.
 -- Assumes nothing.
-use Rattle.std.proofs.Common.{◌≡◌, refl, ap, sym, ◌∙◌, List, [], ◌∷◌, ℕ, ◌<◌, arith, T}
+use Rattle.std.proofs.Common.{◌≡◌, refl, ap, sym, ◌∙◌, ℕ, ◌<◌, arith, T}
 use mathlib.Core.Option.{Option, none, some}
 use Rattle.rules.specs.Tables.{Tables, place_count, place_of, is_live}
 use Rattle.rules.specs.Falls.{fallen, how_many}

@@ -13,23 +13,23 @@ use Rattle.acts.proofs.status.Goals.{Else-p-lt32, Start}
 use Rattle.acts.proofs.status.Goals as goal
 
 module _ (t : Tables) (x : Txn) where
-  live-status : T (is_live t.live x) → 1 ≡ status t x
+  live_status : T (is_live t.live x) → 1 ≡ status t x
   unfolding status
-  live-status l = sym (cond_true (is_live t.live x) 1 (cond (is_logged t.log x) 2 3) l)
+  live_status l = sym (cond_true (is_live t.live x) 1 (cond (is_logged t.log x) 2 3) l)
 
   module _ (g : T (is_live t.live x) → ⊥) where
-    by-log : (b : Bool) → is_logged t.log x ≡ b → cond b 2 3 ≡ status t x
+    by_log : (b : Bool) → is_logged t.log x ≡ b → cond b 2 3 ≡ status t x
     unfolding status
-    by-log b e = sym (cond_false (is_live t.live x) 1 (cond (is_logged t.log x) 2 3) g ∙ ap (λ (a : Bool). cond a 2 3) e)
+    by_log b e = sym (cond_false (is_live t.live x) 1 (cond (is_logged t.log x) 2 3) g ∙ ap (λ (a : Bool). cond a 2 3) e)
 
     logged_status : (log_number t.log x).num ≤ length t.log → 2 ≡ status t x
     unfolding is_logged
-    logged_status h = by-log true (is_true (is_logged t.log x) ((at_most_says (log_number t.log x).num (length t.log)).1 h))
+    logged_status h = by_log true (is_true (is_logged t.log x) ((at_most_says (log_number t.log x).num (length t.log)).1 h))
 
-    gone-status : length t.log < (log_number t.log x).num → 3 ≡ status t x
+    gone_status : length t.log < (log_number t.log x).num → 3 ≡ status t x
     unfolding is_logged
-    gone-status h =
-        by-log false
+    gone_status h =
+        by_log false
         (is_false (is_logged t.log x) (λ u. let k = (at_most_says (log_number t.log x).num (length t.log)).0 u in omega arith))
 
 -- it has no place
@@ -44,7 +44,7 @@ gone c l =
 pub returns-then-p-lt32 : goal.returns-then-p-lt32
 returns-then-p-lt32 c = let t = unpack c.args.words.now in
     let x = txn c.args.x.num in
-    live-status t x (live_below t.live x c.args.p c.requires.1 c.if-p-lt32.true)
+    live_status t x (live_below t.live x c.args.p c.requires.1 c.if-p-lt32.true)
 
 pub bounds-words-1 : goal.bounds-words-1
 bounds-words-1 c = omega (arith, fitting c.args.words.now c.requires.0)
@@ -56,5 +56,5 @@ returns-then-number-last c = let t = unpack c.args.words.now in
 
 pub returns-else-number-last : goal.returns-else-number-last
 returns-else-number-last c = let t = unpack c.args.words.now in
-    gone-status t (txn c.args.x.num) (gone (goal.at.returns-else-number-last c).Else-p-lt32)
+    gone_status t (txn c.args.x.num) (gone (goal.at.returns-else-number-last c).Else-p-lt32)
     (omega (arith, c.if-number-last.false, ap (λ (n : Lsn). n.num) c.log_number-number.ensures, (sound_words_say c.args.words.now c.requires.0).log_count))

@@ -2,7 +2,7 @@
 -- Assumes nothing.
 use Rattle.std.proofs.Common.{◌≡◌, ap, sym, subst, ◌∙◌, List, ℕ, ◌<◌, T}
 use Rattle.rules.specs.Tables.{Txn, Tables, txn, obj, object_count, is_live, place_of}
-use Rattle.rules.specs.Steps.{access, set_working, write}
+use Rattle.rules.specs.Steps.{set_working, write}
 use Rattle.rules.specs.Layout.{sound_words, unpack, pack}
 use Rattle.acts.proofs.Accessed.{tables_after, words_after, live_after, there_after}
 use Rattle.acts.proofs.write.Goals as goal

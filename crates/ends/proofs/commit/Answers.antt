@@ -12,32 +12,32 @@ add_record-requires c = let ws : List ℕ = c.args.words.now in
     (size ws c.requires.0, omega (arith, log_count_is ws c.requires.0))
 
 pub strike_all-requires : goal.strike_all-requires
-strike_all-requires c = let add-record-call = c.add_record in
+strike_all-requires c = let add_record_call = c.add_record in
     let ws : List ℕ = c.args.words.now in
     let x = c.args.x.num in
     let pre = c.requires in (
-      add-record-call.auto.words ∙ size ws pre.0,
+      add_record_call.auto.words ∙ size ws pre.0,
       seat_below ws pre.0 x c.args.p pre.1 pre.2,
-      λ q h. subst (λ (vs : List ℕ). word vs (depends_at + q) < 2 ^ width) (sym add-record-call.ensures)
+      λ q h. subst (λ (vs : List ℕ). word vs (depends_at + q) < 2 ^ width) (sym add_record_call.ensures)
           (depends_fit ws pre.0 _ pre.3 q h),
     )
 
 pub free_place-requires : goal.free_place-requires
-free_place-requires c = let add-record-call = c.add_record in
+free_place-requires c = let add_record_call = c.add_record in
     let ws : List ℕ = c.args.words.now in
     let pre = c.requires in (
-      c.strike_all.auto.words ∙ add-record-call.auto.words ∙ size ws pre.0,
+      c.strike_all.auto.words ∙ add_record_call.auto.words ∙ size ws pre.0,
       seat_below ws pre.0 c.args.x.num c.args.p pre.1 pre.2,
     )
 
 pub shape_of-words : goal.shape_of-words
-shape_of-words c = let strike-all-call = c.strike_all in
-    let add-record-call = c.add_record in
-    c.free_place.auto.words ∙ strike-all-call.auto.words ∙ add-record-call.auto.words
+shape_of-words c = let strike_all_call = c.strike_all in
+    let add_record_call = c.add_record in
+    c.free_place.auto.words ∙ strike_all_call.auto.words ∙ add_record_call.auto.words
 
 pub returns : goal.returns
-returns c = let strike-all-call = c.strike_all in
-    let add-record-call = c.add_record in
+returns c = let strike_all_call = c.strike_all in
+    let add_record_call = c.add_record in
     let pre = c.requires in
     commit_leaves c.args.words.now pre.0 c.args.x.num pre.3 c.args.p pre.1 pre.2
-    add-record-call.ensures strike-all-call.ensures c.free_place.ensures
+    add_record_call.ensures strike_all_call.ensures c.free_place.ensures

@@ -1,4 +1,4 @@
-use Rattle.std.proofs.Common.{List, not, ◌≡◌, refl, ap, ◌∙◌, ℕ, ◌+◌, ◌-◌, arith, eqb}
+use Rattle.std.proofs.Common.{List, not, ◌≡◌, refl, ap, ◌∙◌, ℕ, ◌+◌, arith, eqb}
 use Rattle.rules.specs.Tests.{count}
 use Rattle.rules.specs.Tables.{place_count}
 use Rattle.rules.specs.Layout.{word, number_at}

@@ -1,6 +1,6 @@
 -- `ends::count_used` meets its contract. The loop's invariant: the count so far is that of the places passed.
 -- Assumes nothing.
-use Rattle.std.proofs.Common.{◌≡◌, ◌-◌, ◌≤◌}
+use Rattle.std.proofs.Common.{◌≡◌, ◌≤◌}
 use Rattle.rules.specs.Tables.{place_count}
 use Rattle.ends_laws.specs.Restart.{used_below}
 use Rattle.ends.proofs.count_used.Given as goal

@@ -1,4 +1,4 @@
-use Rattle.std.proofs.Common.{List, ◌≡◌, refl, ap, sym, ◌∙◌, ℕ, ◌-◌, arith}
+use Rattle.std.proofs.Common.{List, ◌≡◌, refl, ap, sym, ◌∙◌, ℕ, arith}
 use Rattle.rules.specs.Tests.{sum}
 use Rattle.rules.specs.Tables.{object_count}
 use Rattle.rules.specs.Steps.{crash_count}
@@ -24,14 +24,14 @@ overflow_add-dropped c = let turn = c.loop-i in
 
 pub loop-i-preserved : goal.loop-i-preserved
 loop-i-preserved c = let turn = c.loop-i in
-    let crash-object-call = c.crash_object-dropped in
+    let crash_object_call = c.crash_object-dropped in
     let ws : List ℕ = c.args.words.now in
     let objects = c.args.objects in
     let now =
-    crash-object-call.ensures.0
+    crash_object_call.ensures.0
     ∙ drops ws c.requires.0 objects turn.i (omega arith) turn.words turn.invariant.0.left in (
-      turning_more turn.invariant.0 (omega arith) crash-object-call.auto.words crash-object-call.ensures.1,
-      dropped_more ws objects turn.i turn.dropped crash-object-call.result turn.invariant.1 now,
+      turning_more turn.invariant.0 (omega arith) crash_object_call.auto.words crash_object_call.ensures.1,
+      dropped_more ws objects turn.i turn.dropped crash_object_call.result turn.invariant.1 now,
       omega (arith, drops_few ws c.requires.0 objects turn.i (omega arith)),
     )
 

@@ -1,7 +1,7 @@
 -- `ends::crash` meets its contract. The loop's invariant: the words are those after so many turns, and so many entries
 -- were dropped.
 -- Assumes nothing.
-use Rattle.std.proofs.Common.{◌≡◌, ◌-◌, ◌*◌, ◌≤◌}
+use Rattle.std.proofs.Common.{◌≡◌, ◌*◌, ◌≤◌}
 use Rattle.rules.specs.Tests.{sum}
 use Rattle.rules.specs.Tables.{object_count, chain_room}
 use Rattle.ends_laws.specs.Loops.{Turning}

@@ -10,10 +10,10 @@ use Rattle.ends.proofs.crash_object.Goals as goal
 pub returns-then-has : goal.returns-then-has
 unfolding crash_object
 returns-then-has c = let if1 = c.if-has in
-    let has-call = c.has in
+    let has_call = c.has in
     let ws : List ℕ = c.args.words.now in
     let i = c.args.o.num in
-    let test : true ≡ has c.args.objects i = sym if1.true ∙ has-call.ensures in (
+    let test : true ≡ has c.args.objects i = sym if1.true ∙ has_call.ensures in (
       ap (λ (b : Bool). cond b (word ws (queued_count_at + i)) 0) test,
       c.keep_saved.ensures
           ∙ ap (λ (b : Bool). cond b (keep_saved i (word ws (saved_count_at + i)) ws) ws) test,

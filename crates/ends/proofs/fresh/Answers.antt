@@ -8,15 +8,15 @@ pub fresh_log-requires : goal.fresh_log-requires
 fresh_log-requires c = c.requires
 
 pub zero_rest-requires : goal.zero_rest-requires
-zero_rest-requires c = let fresh-log-call = c.fresh_log in
-    (fresh-log-call.auto.words ∙ c.requires, fresh-log-call.ensures)
+zero_rest-requires c = let fresh_log_call = c.fresh_log in
+    (fresh_log_call.auto.words ∙ c.requires, fresh_log_call.ensures)
 
 pub shape_of-words : goal.shape_of-words
-shape_of-words c = let fresh-log-call = c.fresh_log in
-    c.zero_rest.auto.words ∙ fresh-log-call.auto.words
+shape_of-words c = let fresh_log_call = c.fresh_log in
+    c.zero_rest.auto.words ∙ fresh_log_call.auto.words
 
 pub returns : goal.returns
-returns c = let zero-rest-call = c.zero_rest in
-    let fresh-log-call = c.fresh_log in
-    fresh_packs zero-rest-call.new.words (zero-rest-call.auto.words ∙ fresh-log-call.auto.words ∙ c.requires)
-    zero-rest-call.ensures
+returns c = let zero_rest_call = c.zero_rest in
+    let fresh_log_call = c.fresh_log in
+    fresh_packs zero_rest_call.new.words (zero_rest_call.auto.words ∙ fresh_log_call.auto.words ∙ c.requires)
+    zero_rest_call.ensures

@@ -1,4 +1,4 @@
-use Rattle.std.proofs.Common.{sym, ◌∙◌, ◌+◌, ◌-◌, arith, length-set}
+use Rattle.std.proofs.Common.{sym, ◌∙◌, ◌+◌, arith, length-set}
 use Rattle.ends_laws.specs.Fresh.{one_first_more, get_or_replicate, one_first_start}
 use Rattle.ends.proofs.fresh_log.Goals as goal
 

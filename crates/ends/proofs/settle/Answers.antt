@@ -12,12 +12,12 @@ pub settle_number-k-requires : goal.settle_number-k-requires
 settle_number-k-requires c = (size c.args.words.now c.requires.0, c.requires.1)
 
 pub returns-then-k-eq0 : goal.returns-then-k-eq0
-returns-then-k-eq0 c = let settle-number-call = c.settle_number-k in
+returns-then-k-eq0 c = let settle_number_call = c.settle_number-k in
     let ws : List ℕ = c.args.words.now in
     let o = c.args.o.num in
     let pre = c.requires in (
-      sym c.if-k-eq0.true ∙ settle-number-call.ensures ∙ settle_number_is ws pre.0 o pre.1,
-      settle_leaves_none ws pre.0 o pre.1 (sym settle-number-call.ensures ∙ c.if-k-eq0.true),
+      sym c.if-k-eq0.true ∙ settle_number_call.ensures ∙ settle_number_is ws pre.0 o pre.1,
+      settle_leaves_none ws pre.0 o pre.1 (sym settle_number_call.ensures ∙ c.if-k-eq0.true),
     )
 
 pub writer_at-last-requires : goal.writer_at-last-requires
@@ -36,16 +36,16 @@ pub shape_of-words : goal.shape_of-words
 shape_of-words c = c.settle_object.auto.words
 
 pub returns : goal.returns
-returns c = let settle-number-call = c.settle_number-k in
-    let log-number-call = c.log_number-n in
+returns c = let settle_number_call = c.settle_number-k in
+    let log_number_call = c.log_number-n in
     let ws : List ℕ = c.args.words.now in
     let o = c.args.o.num in
     let pre = c.requires in (
-      settle-number-call.ensures ∙ settle_number_is ws pre.0 o pre.1,
+      settle_number_call.ensures ∙ settle_number_is ws pre.0 o pre.1,
       c.settle_object.ensures
-          ∙ settle_leaves_some ws pre.0 o pre.1 settle-number-call.result log-number-call.result.num
-          settle-number-call.ensures
+          ∙ settle_leaves_some ws pre.0 o pre.1 settle_number_call.result log_number_call.result.num
+          settle_number_call.ensures
           (omega arith)
-          (ap (λ (n : Lsn). n.num) log-number-call.ensures
+          (ap (λ (n : Lsn). n.num) log_number_call.ensures
           ∙ ap (λ (y : ℕ). (log_number (unpack ws).log (txn y)).num) c.writer_at-last.ensures),
     )

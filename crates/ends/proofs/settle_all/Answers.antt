@@ -1,4 +1,4 @@
-use Rattle.std.proofs.Common.{List, subst, ◌≡◌, ap, sym, ◌∙◌, ℕ, ◌-◌, arith, T, length}
+use Rattle.std.proofs.Common.{List, subst, ◌≡◌, ap, sym, ◌∙◌, ℕ, arith, T, length}
 use Rattle.rules.specs.Tables.{object_count}
 use Rattle.rules.specs.Layout.{sound_words, pack, unpack}
 use Rattle.words_laws.specs.Words.{words_again, pack_length}

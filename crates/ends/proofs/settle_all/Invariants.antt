@@ -1,7 +1,7 @@
 -- `ends::settle_all` meets its contract. The loop's invariant: the words hold the tables with the first objects
 -- settled.
 -- Assumes nothing.
-use Rattle.std.proofs.Common.{◌≡◌, ◌-◌, ◌≤◌}
+use Rattle.std.proofs.Common.{◌≡◌, ◌≤◌}
 use Rattle.rules.specs.Tables.{object_count}
 use Rattle.rules.specs.Layout.{pack, unpack}
 use Rattle.ends_laws.specs.Restart.{settle_first}

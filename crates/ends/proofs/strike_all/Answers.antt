@@ -1,7 +1,7 @@
-use Rattle.std.proofs.Common.{List, ap, sym, ◌∙◌, ℕ, ◌+◌, ◌-◌, arith}
+use Rattle.std.proofs.Common.{List, ap, sym, ◌∙◌, ℕ, ◌+◌, arith}
 use Rattle.rules.specs.Layout.{word, depends_at}
 use Rattle.ends_laws.specs.Loops.{turning_none, turning_more, turning_all}
-use Rattle.ends_laws.specs.Commit.{strike, strike_later}
+use Rattle.ends_laws.specs.Commit.{strike_later}
 use Rattle.ends.proofs.strike_all.Goals as goal
 
 pub loop-q-init : goal.loop-q-init

@@ -12,10 +12,10 @@ pub undo_places-requires : goal.undo_places-requires
 undo_places-requires c = c.undo_objects.auto.words ∙ size c.args.words.now c.requires.0
 
 pub shape_of-words : goal.shape_of-words
-shape_of-words c = let undo-objects-call = c.undo_objects in
-    c.undo_places.auto.words ∙ undo-objects-call.auto.words
+shape_of-words c = let undo_objects_call = c.undo_objects in
+    c.undo_places.auto.words ∙ undo_objects_call.auto.words
 
 pub returns : goal.returns
-returns c = let undo-objects-call = c.undo_objects in
-    undo_leaves c.args.words.now c.requires.0 c.args.f c.requires.1 undo-objects-call.ensures
+returns c = let undo_objects_call = c.undo_objects in
+    undo_leaves c.args.words.now c.requires.0 c.args.f c.requires.1 undo_objects_call.ensures
     c.undo_places.ensures

@@ -1,6 +1,5 @@
-use Rattle.std.proofs.Common.{sym, ◌∙◌, ◌-◌, arith}
+use Rattle.std.proofs.Common.{sym, ◌∙◌, arith}
 use Rattle.ends_laws.specs.Loops.{turning_none, turning_more, turning_all}
-use Rattle.ends_laws.specs.Undo.{undo_object}
 use Rattle.ends.proofs.undo_objects.Goals as goal
 
 pub loop-i-init : goal.loop-i-init

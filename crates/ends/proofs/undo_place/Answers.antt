@@ -8,10 +8,10 @@ use Rattle.ends.proofs.undo_place.Goals as goal
 pub returns-then-has : goal.returns-then-has
 unfolding undo_place
 returns-then-has c = let if1 = c.if-has in
-    let has-call = c.has in
+    let has_call = c.has in
     let ws : List ℕ = c.args.words.now in
     c.free_place.ensures
-    ∙ ap (λ (b : Bool). cond b (free_words c.args.p ws) ws) (sym if1.true ∙ has-call.ensures)
+    ∙ ap (λ (b : Bool). cond b (free_words c.args.p ws) ws) (sym if1.true ∙ has_call.ensures)
 
 pub returns-else-has : goal.returns-else-has
 unfolding undo_place

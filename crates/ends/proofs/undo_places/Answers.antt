@@ -1,6 +1,5 @@
-use Rattle.std.proofs.Common.{sym, ◌∙◌, ◌-◌, arith}
+use Rattle.std.proofs.Common.{sym, ◌∙◌, arith}
 use Rattle.ends_laws.specs.Loops.{turning_none, turning_more, turning_all}
-use Rattle.ends_laws.specs.Undo.{undo_place}
 use Rattle.ends.proofs.undo_places.Goals as goal
 
 pub loop-p-init : goal.loop-p-init

@@ -1,6 +1,5 @@
 -- `ends::undo_places` meets its contract. The loop's invariant: the words are those after so many turns.
 -- Assumes nothing.
-use Rattle.std.proofs.Common.{◌-◌}
 use Rattle.rules.specs.Tables.{place_count}
 use Rattle.ends_laws.specs.Loops.{Turning}
 use Rattle.ends_laws.specs.Undo.{undo_place}

@@ -1,4 +1,4 @@
-use Rattle.std.proofs.Common.{sym, ◌∙◌, ◌-◌, arith}
+use Rattle.std.proofs.Common.{sym, ◌∙◌, arith}
 use Rattle.ends_laws.specs.Loops.{turning_none, turning_more, turning_all}
 use Rattle.ends.proofs.wipe_objects.Goals as goal
 

@@ -1,6 +1,5 @@
 -- `ends::wipe_objects` meets its contract. The loop's invariant: the words are those after so many turns.
 -- Assumes nothing.
-use Rattle.std.proofs.Common.{◌-◌}
 use Rattle.rules.specs.Tables.{object_count}
 use Rattle.ends_laws.specs.Loops.{Turning}
 use Rattle.ends_laws.specs.Restart.{wipe}

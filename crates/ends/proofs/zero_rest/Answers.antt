@@ -1,4 +1,4 @@
-use Rattle.std.proofs.Common.{refl, sym, ◌∙◌, ◌+◌, ◌-◌, arith, length-set}
+use Rattle.std.proofs.Common.{refl, sym, ◌∙◌, ◌+◌, arith, length-set}
 use Rattle.ends_laws.specs.Fresh.{one_first_more}
 use Rattle.ends.proofs.zero_rest.Goals as goal
 

@@ -6,9 +6,9 @@ use Rattle.frames.proofs.digit_values.Invariants.{marked}
 use Rattle.frames.proofs.digit_values.Goals as goal
 
 -- the table's rule, computed
-all-marked : marked 16 ≡ digit_values
+all_marked : marked 16 ≡ digit_values
 unfolding marked digit_values row
-all-marked = refl
+all_marked = refl
 
 pub loop-number-init : goal.loop-number-init
 unfolding marked digit_characters row
@@ -32,5 +32,5 @@ loop-number-preserved c = (
 )
 
 pub returns : goal.returns
-returns c = let all-passed : c.loop-number.number ≡ 16 = omega arith in
-    c.loop-number.invariant.2 ∙ ap marked all-passed ∙ all-marked
+returns c = let all_passed : c.loop-number.number ≡ 16 = omega arith in
+    c.loop-number.invariant.2 ∙ ap marked all_passed ∙ all_marked

@@ -30,8 +30,8 @@ numbers c =
     }
 
 -- the test of the five numbers
-abbrev digits-alone : After-number-low → Bool
-digits-alone c =
+abbrev digits_alone : After-number-low → Bool
+digits_alone c =
     all_small c.number-kind.result c.number-who.result
     c.number-what.result c.number-high.result c.number-low.result
 
@@ -40,8 +40,8 @@ module _ (c : Else-not-all_digits) where
   long : length (line (goal.at.Else-not-all_digits c).After-number-low) ≡ frame_length
   long = c.if-line-ne29.false
 
-  small : T (digits-alone (goal.at.Else-not-all_digits c).After-number-low)
-  small = from_true (digits-alone (goal.at.Else-not-all_digits c).After-number-low) c.if-not-all_digits.false
+  small : T (digits_alone (goal.at.Else-not-all_digits c).After-number-low)
+  small = from_true (digits_alone (goal.at.Else-not-all_digits c).After-number-low) c.if-not-all_digits.false
 
   fits : c.number-high.result * no_digit + c.number-low.result < 2 ^ 64
   fits = value_fits _ _ _ _ _ _ (numbers (goal.at.Else-not-all_digits c).After-number-low) long small

@@ -1,4 +1,4 @@
-use Rattle.std.proofs.Common.{refl, Bool, ℕ, ◌-◌, arith}
+use Rattle.std.proofs.Common.{refl, Bool, ℕ, arith}
 use Rattle.rules.specs.Sets.{collect}
 use Rattle.rules.specs.Tables.{place_count}
 use Rattle.rules.specs.Layout.{unpack}

@@ -1,7 +1,7 @@
 -- `lookups::and_dependents` meets its contract. The loop's invariant: the next set so far is that of the places passed that
 -- join. All of them are asked about the set as it was when the round began.
 -- Assumes nothing.
-use Rattle.std.proofs.Common.{◌≡◌, ◌-◌, ◌≤◌}
+use Rattle.std.proofs.Common.{◌≡◌, ◌≤◌}
 use Rattle.rules.specs.Sets.{collect}
 use Rattle.rules.specs.Tables.{place_count}
 use Rattle.rules.specs.Layout.{unpack}

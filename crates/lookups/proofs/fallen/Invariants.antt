@@ -1,7 +1,7 @@
 -- `lookups::fallen` meets its contract. The loop's invariant: the set so far is what as many rounds as turns make of the bit
 -- of p. A round that adds nothing ends it, since no later one adds anything either.
 -- Assumes nothing.
-use Rattle.std.proofs.Common.{◌≡◌, List, ℕ, ◌-◌, ◌≤◌, eqb}
+use Rattle.std.proofs.Common.{◌≡◌, List, ℕ, ◌≤◌, eqb}
 use Rattle.rules.specs.Sets.{collect}
 use Rattle.rules.specs.Tables.{place_count}
 use Rattle.rules.specs.Layout.{unpack}

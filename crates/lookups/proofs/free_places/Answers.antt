@@ -1,4 +1,4 @@
-use Rattle.std.proofs.Common.{◌≡◌, refl, ◌∙◌, List, ℕ, ◌-◌, arith}
+use Rattle.std.proofs.Common.{◌≡◌, refl, ◌∙◌, List, ℕ, arith}
 use Rattle.rules.specs.Sets.{collect}
 use Rattle.rules.specs.Tables.{place_count}
 use Rattle.words_laws.specs.Fits.{Fits}
@@ -11,9 +11,9 @@ fits : (c : Start) → Fits c.args.words.now
 fits c = fitting c.args.words.now c.requires
 
 -- the set as the loop leaves it
-all-passed : (c : After-loop-p)
+all_passed : (c : After-loop-p)
     → c.loop-p.free ≡ collect place_count (free_word c.args.words.now)
-all-passed c =
+all_passed c =
     let loop = c.loop-p in
     grown (free_word c.args.words.now) loop.p loop.free loop.invariant.1 place_count
     loop.invariant.0 c.loop-p-test.false
@@ -40,8 +40,8 @@ loop-p-preserved c = let loop = c.loop-p in
 pub overflow_cast-result : goal.overflow_cast-result
 overflow_cast-result c = record {
   fits =
-      grows_below (free_word c.args.words.now) place_count c.loop-p.free (all-passed (goal.at.overflow_cast-result c).After-loop-p);
+      grows_below (free_word c.args.words.now) place_count c.loop-p.free (all_passed (goal.at.overflow_cast-result c).After-loop-p);
 }
 
 pub returns : goal.returns
-returns c = all-passed (goal.at.returns c).After-loop-p ∙ free_words c.args.words.now
+returns c = all_passed (goal.at.returns c).After-loop-p ∙ free_words c.args.words.now

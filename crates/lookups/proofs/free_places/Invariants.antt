@@ -1,6 +1,6 @@
 -- `lookups::free_places` meets its contract. The loop's invariant: the set so far is that of the free places passed.
 -- Assumes nothing.
-use Rattle.std.proofs.Common.{◌≡◌, ◌-◌, ◌≤◌}
+use Rattle.std.proofs.Common.{◌≡◌, ◌≤◌}
 use Rattle.rules.specs.Sets.{collect}
 use Rattle.rules.specs.Tables.{place_count}
 use Rattle.lookups.proofs.Growing.{free_word}

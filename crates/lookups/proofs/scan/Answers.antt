@@ -1,4 +1,4 @@
-use Rattle.std.proofs.Common.{◌-◌, arith, below_more}
+use Rattle.std.proofs.Common.{arith, below_more}
 use Rattle.lookups.proofs.Scanning.{found}
 use Rattle.lookups.proofs.scan.Goals as goal
 

@@ -1,6 +1,6 @@
 -- `maruvoog::mv_fresh` meets its contract: words of the right count are made fresh, and others are left as they are.
 -- Assumes nothing.
-use Rattle.std.proofs.Common.{◌≡◌, List, ℕ, rules, eq-eqb, ne_eqb, length}
+use Rattle.std.proofs.Common.{◌≡◌, List, ℕ, eq-eqb, ne_eqb, length}
 use Rattle.rules.specs.Tables.{fresh}
 use Rattle.rules.specs.Answers as rules
 use Rattle.rules.specs.Layout.{word_count, pack}
@@ -8,17 +8,17 @@ use Rattle.rules.specs.Session.{fresh_words}
 use Rattle.maruvoog.specs.Promised.{Leaves}
 use Rattle.maruvoog.proofs.mv_fresh.Goals as goal
 
-right-count : (ws vs : List ℕ) → length ws ≡ word_count → vs ≡ pack fresh
+right_count : (ws vs : List ℕ) → length ws ≡ word_count → vs ≡ pack fresh
     → Leaves (fresh_words ws) (record { number = 0; value = 0 }) vs
 unfolding fresh_words
-right-count ws vs e f = let t = eq-eqb (length ws) word_count e in record { answer = rw t; words = rw t f }
+right_count ws vs e f = let t = eq-eqb (length ws) word_count e in record { answer = rw t; words = rw t f }
 
-wrong-count : (ws : List ℕ) → (length ws ≡ word_count → ⊥) → Leaves (fresh_words ws) (record { number = 1; value = 0 }) ws
+wrong_count : (ws : List ℕ) → (length ws ≡ word_count → ⊥) → Leaves (fresh_words ws) (record { number = 1; value = 0 }) ws
 unfolding fresh_words rules.number_of
-wrong-count ws e = let t = ne_eqb (length ws) word_count e in record { answer = rw t; words = rw t }
+wrong_count ws e = let t = ne_eqb (length ws) word_count e in record { answer = rw t; words = rw t }
 
 pub returns-then-words-eq1410 : goal.returns-then-words-eq1410
-returns-then-words-eq1410 c = right-count _ _ c.if-words-eq1410.true c.fresh.ensures
+returns-then-words-eq1410 c = right_count _ _ c.if-words-eq1410.true c.fresh.ensures
 
 pub returns-else-words-eq1410 : goal.returns-else-words-eq1410
-returns-else-words-eq1410 c = wrong-count _ c.if-words-eq1410.false
+returns-else-words-eq1410 c = wrong_count _ c.if-words-eq1410.false

@@ -1,7 +1,7 @@
 -- `maruvoog::mv_run` meets its contract: on words that the test finds sound the lines are run, and otherwise the words and
 -- the room are left as they are.
 -- Assumes nothing.
-use Rattle.std.proofs.Common.{◌≡◌, sym, ◌∙◌, true, false, List, ℕ, rules}
+use Rattle.std.proofs.Common.{◌≡◌, sym, ◌∙◌, true, false, List, ℕ}
 use Rattle.rules.specs.Answers as rules
 use Rattle.rules.specs.Layout.{sound_words}
 use Rattle.rules.specs.Session.{run_words}
@@ -24,14 +24,14 @@ unfolding run_words rules.number_of
 on_unsound ws text room e = record { answer = rw e; words = rw e; room = rw e }
 
 -- where the test passed, the words are sound
-found-sound : (c : Then-sound) → sound_words c.args.words.now ≡ true
-found-sound c = sym c.sound.ensures ∙ c.if-sound.true
+found_sound : (c : Then-sound) → sound_words c.args.words.now ≡ true
+found_sound c = sym c.sound.ensures ∙ c.if-sound.true
 
 pub run-ran-requires : goal.run-ran-requires
-run-ran-requires c = from_true _ (found-sound (goal.at.run-ran-requires c).Then-sound)
+run-ran-requires c = from_true _ (found_sound (goal.at.run-ran-requires c).Then-sound)
 
 pub returns-then-sound : goal.returns-then-sound
-returns-then-sound c = on_sound _ _ _ _ _ _ (found-sound (goal.at.returns-then-sound c).Then-sound) c.run-ran.ensures
+returns-then-sound c = on_sound _ _ _ _ _ _ (found_sound (goal.at.returns-then-sound c).Then-sound) c.run-ran.ensures
 
 pub returns-else-sound : goal.returns-else-sound
 returns-else-sound c = on_unsound _ _ _ (sym c.sound.ensures ∙ c.if-sound.false)

@@ -1,7 +1,6 @@
 -- `maruvoog::one` meets its contract: on words that the test finds sound the call is done, and others are left as they are.
 -- Assumes nothing.
-use Rattle.std.proofs.Common.{◌≡◌, sym, ◌∙◌, true, false, List, ℕ, rules}
-use borrow.Author.Tests.{not-false}
+use Rattle.std.proofs.Common.{◌≡◌, sym, ◌∙◌, true, false, List, ℕ}
 use Rattle.rules.specs.Answers as rules
 use Rattle.rules.specs.Layout.{sound_words}
 use Rattle.rules.specs.Session.{call_words}
@@ -21,14 +20,14 @@ unfolding call_words rules.number_of
 on_unsound ws q e = record { answer = rw e; words = rw e }
 
 -- where the test passed, the words are sound
-found-sound : (c : Else-not-sound) → sound_words c.args.words.now ≡ true
-found-sound c = sym c.sound.ensures ∙ c.if-not-sound.false
+found_sound : (c : Else-not-sound) → sound_words c.args.words.now ≡ true
+found_sound c = sym c.sound.ensures ∙ c.if-not-sound.false
 
 pub returns-then-not-sound : goal.returns-then-not-sound
 returns-then-not-sound c = on_unsound _ _ (sym c.sound.ensures ∙ c.if-not-sound.true)
 
 pub call-requires : goal.call-requires
-call-requires c = (from_true _ (found-sound (goal.at.call-requires c).Else-not-sound), c.requires)
+call-requires c = (from_true _ (found_sound (goal.at.call-requires c).Else-not-sound), c.requires)
 
 pub returns : goal.returns
-returns c = on_sound _ _ _ _ (found-sound (goal.at.returns c).Else-not-sound) c.call.ensures
+returns c = on_sound _ _ _ _ (found_sound (goal.at.returns c).Else-not-sound) c.call.ensures

@@ -1,4 +1,4 @@
-use Rattle.std.proofs.Common.{Bool, ⊎_elim, ℕ, ◌+◌, ◌-◌, arith, below_more}
+use Rattle.std.proofs.Common.{Bool, ℕ, ◌+◌, arith, below_more}
 use Rattle.rules.specs.Sets.{has}
 use Rattle.rules.specs.Tables.{txn, object_count}
 use Rattle.rules.specs.Layout.{written_at, word}

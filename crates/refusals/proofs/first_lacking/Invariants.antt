@@ -1,7 +1,7 @@
 -- `refusals::first_lacking` meets its contract. The loop's invariant: no object passed is one that the transaction wrote and
 -- that lacks its entry. So the first that is, or 32 where the loop ends, is the lowest.
 -- Assumes nothing.
-use Rattle.std.proofs.Common.{ℕ, ◌-◌, ◌≤◌, ◌<◌, T}
+use Rattle.std.proofs.Common.{ℕ, ◌≤◌, ◌<◌, T}
 use Rattle.rules.specs.Tables.{txn, object_count}
 use Rattle.refusals.specs.Lacking.{is_lacking}
 use Rattle.refusals.proofs.first_lacking.Given as goal

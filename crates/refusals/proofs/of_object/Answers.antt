@@ -11,13 +11,13 @@ use Rattle.refusals.proofs.Deciding.{because, no_reason, decides}
 use Rattle.refusals.proofs.of_object.Goals as goal
 
 module _ (ws : List ℕ) (s : T (sound_words ws)) (o : ℕ) (k : Kind) (no_crash : same_kind k is_crash ≡ false) (in_order : order k ≡ unsound ∷ no_such_object ∷ []) where
-  an-object : o < object_count → Refuses ws (asking k 0 o 0) Done
-  an-object h =
+  an_object : o < object_count → Refuses ws (asking k 0 o 0) Done
+  an_object h =
       decides ws (asking k 0 o 0) (no_such_object ∷ []) s in_order Done
       (no_reason ws (asking k 0 o 0) (no_such_object ∷ []) (object_none (unpack ws) (asking k 0 o 0) no_crash h))
 
-  past-objects : object_count ≤ o → Refuses ws (asking k 0 o 0) NoSuchObject
-  past-objects h =
+  past_objects : object_count ≤ o → Refuses ws (asking k 0 o 0) NoSuchObject
+  past_objects h =
       decides ws (asking k 0 o 0) (no_such_object ∷ []) s in_order NoSuchObject
       (because ws (asking k 0 o 0) (no_such_object ∷ []) NoSuchObject no_such_object refl (object_first (unpack ws) (asking k 0 o 0) [] no_crash h))
 
@@ -25,10 +25,10 @@ pub returns-then-o-lt32 : goal.returns-then-o-lt32
 unfolding order kind_number
 returns-then-o-lt32 c = λ ws s.
     let o : ℕ = c.args.o.num in
-    (an-object ws s o is_save refl refl c.if-o-lt32.true, an-object ws s o is_settle refl refl c.if-o-lt32.true, an-object ws s o is_look refl refl c.if-o-lt32.true)
+    (an_object ws s o is_save refl refl c.if-o-lt32.true, an_object ws s o is_settle refl refl c.if-o-lt32.true, an_object ws s o is_look refl refl c.if-o-lt32.true)
 
 pub returns-else-o-lt32 : goal.returns-else-o-lt32
 unfolding order kind_number
 returns-else-o-lt32 c = λ ws s.
     let o : ℕ = c.args.o.num in
-    (past-objects ws s o is_save refl refl c.if-o-lt32.false, past-objects ws s o is_settle refl refl c.if-o-lt32.false, past-objects ws s o is_look refl refl c.if-o-lt32.false)
+    (past_objects ws s o is_save refl refl c.if-o-lt32.false, past_objects ws s o is_settle refl refl c.if-o-lt32.false, past_objects ws s o is_look refl refl c.if-o-lt32.false)

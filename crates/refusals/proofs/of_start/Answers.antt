@@ -24,8 +24,8 @@ for : (ws : List ℕ) → T (sound_words ws) → (w : Why) → FirstOf ws call r
 unfolding order
 for ws s = decides ws call reasons s refl
 
-numbers-left : (c : Else-next-gt999999) → (unpack c.args.words.now).next.num ≤ last_number
-numbers-left c =
+numbers_left : (c : Else-next-gt999999) → (unpack c.args.words.now).next.num ≤ last_number
+numbers_left c =
     let start : Start = (goal.at.Else-next-gt999999 c).Start in
     omega (arith, (saying start.args.words.now start.requires).next, c.if-next-gt999999.false)
 
@@ -42,10 +42,10 @@ pub returns-then-free_places-eq0 : goal.returns-then-free_places-eq0
 returns-then-free_places-eq0 c = let ws : List ℕ = c.args.words.now in
     for ws c.requires PlacesFull
     (because ws call reasons PlacesFull places_full refl
-    (full_first (unpack ws) call (numbers-left (goal.at.returns-then-free_places-eq0 c).Else-next-gt999999) (sym c.free_places.ensures ∙ c.if-free_places-eq0.true)))
+    (full_first (unpack ws) call (numbers_left (goal.at.returns-then-free_places-eq0 c).Else-next-gt999999) (sym c.free_places.ensures ∙ c.if-free_places-eq0.true)))
 
 pub returns-else-free_places-eq0 : goal.returns-else-free_places-eq0
 returns-else-free_places-eq0 c = let ws : List ℕ = c.args.words.now in
     for ws c.requires Done
     (no_reason ws call reasons
-    (start_none (unpack ws) call (numbers-left (goal.at.returns-else-free_places-eq0 c).Else-next-gt999999) (λ z. c.if-free_places-eq0.false (c.free_places.ensures ∙ z))))
+    (start_none (unpack ws) call (numbers_left (goal.at.returns-else-free_places-eq0 c).Else-next-gt999999) (λ z. c.if-free_places-eq0.false (c.free_places.ensures ∙ z))))

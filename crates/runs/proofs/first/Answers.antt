@@ -1,7 +1,7 @@
 -- `runs::first` meets its contract: a frame at the front of the text is its first line and is asked of the words, with its
 -- unused fields zero, as the call requires. Where there is none, the first line is none either, and leaves the words.
 -- Assumes nothing.
-use Rattle.std.proofs.Common.{◌≡◌, ap, sym, ◌∙◌, List, ℕ, rules, T, take, length-take-le}
+use Rattle.std.proofs.Common.{◌≡◌, ap, sym, ◌∙◌, List, ℕ, T, take, length-take-le}
 use mathlib.Core.Option.{none, some}
 use Rattle.rules.specs.Answers as rules
 use Rattle.rules.specs.Frames.{frame_length, read_frame}

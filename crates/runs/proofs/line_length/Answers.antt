@@ -1,4 +1,4 @@
-use Rattle.std.proofs.Common.{◌≡◌, ◌-◌, arith, below_more, rules, length}
+use Rattle.std.proofs.Common.{◌≡◌, arith, below_more, rules, length}
 use Rattle.runs.specs.Cut.{ends_at, ends_with_text}
 use Rattle.runs.proofs.line_length.Goals as goal
 

@@ -1,4 +1,4 @@
-use Rattle.std.proofs.Common.{◌≡◌, subst, ap, sym, ◌∙◌, Bool, ℕ, ◌-◌, arith, below_more, T}
+use Rattle.std.proofs.Common.{◌≡◌, subst, ap, sym, ◌∙◌, Bool, ℕ, arith, below_more, T}
 use Rattle.rules.specs.Tables.{chain_room}
 use Rattle.rules.specs.Layout.{word}
 use Rattle.basics.specs.Logic.{from_true}

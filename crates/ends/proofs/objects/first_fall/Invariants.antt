@@ -1,6 +1,6 @@
 -- `ends::objects::first_fall` meets its contract. The loop's invariant: none of the entries passed falls.
 -- Assumes nothing.
-use Rattle.std.proofs.Common.{ℕ, ◌-◌, ◌≤◌, ◌<◌, T}
+use Rattle.std.proofs.Common.{ℕ, ◌≤◌, ◌<◌, T}
 use Rattle.rules.specs.Tables.{chain_room}
 use Rattle.rules.specs.Layout.{word}
 use Rattle.ends_laws.specs.Entries.{writer_place}

@@ -7,11 +7,11 @@ use Rattle.ends_laws.specs.Cuts.{keep_saved}
 use Rattle.ends.proofs.objects.keep_saved.Goals as goal
 
 pub shape_of-words : goal.shape_of-words
-shape_of-words c = let unlock-call = c.unlock in
-    c.trim.auto.words ∙ unlock-call.auto.words
+shape_of-words c = let unlock_call = c.unlock in
+    c.trim.auto.words ∙ unlock_call.auto.words
 
 pub returns : goal.returns
 unfolding keep_saved
 returns c = let a = c.args in
-    let unlock-call = c.unlock in
-    after (trim a.o.num a.n 0) unlock-call.ensures c.trim.ensures
+    let unlock_call = c.unlock in
+    after (trim a.o.num a.n 0) unlock_call.ensures c.trim.ensures

@@ -14,19 +14,19 @@ pub slide-requires : goal.slide-requires
 slide-requires c = (c.put_stable.auto.words ∙ c.requires.0, c.requires.1, c.requires.3)
 
 pub clear-requires : goal.clear-requires
-clear-requires c = let put-stable-call = c.put_stable in
-    (c.slide.auto.words ∙ put-stable-call.auto.words ∙ c.requires.0, c.requires.1)
+clear-requires c = let put_stable_call = c.put_stable in
+    (c.slide.auto.words ∙ put_stable_call.auto.words ∙ c.requires.0, c.requires.1)
 
 pub shape_of-words : goal.shape_of-words
-shape_of-words c = let slide-call = c.slide in
-    let put-stable-call = c.put_stable in
-    c.clear.auto.words ∙ slide-call.auto.words ∙ put-stable-call.auto.words
+shape_of-words c = let slide_call = c.slide in
+    let put_stable_call = c.put_stable in
+    c.clear.auto.words ∙ slide_call.auto.words ∙ put_stable_call.auto.words
 
 pub returns : goal.returns
 unfolding settle_object
-returns c = let slide-call = c.slide in
-    let put-stable-call = c.put_stable in
+returns c = let slide_call = c.slide in
+    let put_stable_call = c.put_stable in
     let o = c.args.o.num in
     let k = c.args.k in
-    after (clear o (chain_room - k)) (after (slide o k) put-stable-call.ensures slide-call.ensures)
+    after (clear o (chain_room - k)) (after (slide o k) put_stable_call.ensures slide_call.ensures)
     c.clear.ensures

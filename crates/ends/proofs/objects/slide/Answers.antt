@@ -1,4 +1,4 @@
-use Rattle.std.proofs.Common.{◌≡◌, subst, sym, ◌∙◌, ℕ, ◌+◌, ◌-◌, arith}
+use Rattle.std.proofs.Common.{◌≡◌, subst, sym, ◌∙◌, ℕ, ◌+◌, arith}
 use Rattle.rules.specs.Layout.{word}
 use Rattle.ends_laws.specs.Loops.{turning_none, turning_more, turning_all}
 use Rattle.ends_laws.specs.Entries.{value_place, put_entry, slide}

@@ -7,6 +7,6 @@ use Rattle.ends.proofs.objects.trim.Goals as goal
 
 pub returns : goal.returns
 unfolding trim
-returns c = let put-two-call = c.put_two in
+returns c = let put_two_call = c.put_two in
     let a = c.args in
-    after (clear a.o.num (a.saved + a.queued)) put-two-call.ensures c.clear.ensures
+    after (clear a.o.num (a.saved + a.queued)) put_two_call.ensures c.clear.ensures

@@ -7,5 +7,5 @@ use Rattle.ends.proofs.objects.undo_object.Goals as goal
 pub returns : goal.returns
 unfolding undo_object
 returns c = let a = c.args in
-    let undo-chain-call = c.undo_chain in
-    after (unlock_fallen a.f a.o.num) undo-chain-call.ensures c.unlock_fallen.ensures
+    let undo_chain_call = c.undo_chain in
+    after (unlock_fallen a.f a.o.num) undo_chain_call.ensures c.unlock_fallen.ensures

@@ -1,4 +1,4 @@
-use Rattle.std.proofs.Common.{◌≡◌, subst, ℕ, ◌-◌, arith, below_more}
+use Rattle.std.proofs.Common.{◌≡◌, subst, ℕ, arith, below_more}
 use Rattle.basics.specs.Logic.{from_true}
 use Rattle.tables.specs.Tells.{holds_so, fails_so, of_false, of_true}
 use Rattle.tables.specs.Test.{Indexed}

@@ -1,4 +1,4 @@
-use Rattle.std.proofs.Common.{refl, ◌-◌, arith, below_more}
+use Rattle.std.proofs.Common.{refl, arith, below_more}
 use Rattle.tables.specs.Standing.{stands_first, stands_next, chain_holder}
 use Rattle.tables.specs.Tells.{fails_so, of_false, of_true}
 use Rattle.tables.proofs.objects.chain_sound.Goals as goal

@@ -1,4 +1,4 @@
-use Rattle.std.proofs.Common.{◌-◌, arith, below_more}
+use Rattle.std.proofs.Common.{arith, below_more}
 use Rattle.tables.specs.Tells.{holds_so, fails_so, of_false, of_true}
 use Rattle.tables.proofs.objects.objects_sound.Goals as goal
 

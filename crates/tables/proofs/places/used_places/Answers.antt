@@ -1,4 +1,4 @@
-use Rattle.std.proofs.Common.{⊎_elim, refl, ◌∙◌, ◌-◌, arith}
+use Rattle.std.proofs.Common.{refl, ◌∙◌, arith}
 use Rattle.rules.specs.Sets.{collect}
 use Rattle.tables.specs.Seats.{used_fits, used_added, used_left, used_all}
 use Rattle.tables.proofs.places.used_places.Goals as goal
@@ -16,7 +16,7 @@ loop-q-preserved c = let ws = c.args.words.now in
     let below = c.loop-q-test.true in (
       omega arith,
       elim c.if-words-q-ne0.branch [
-        then-words-q-ne0 w ↦ w.used-is ∙ used_added ws _ _ below c.loop-q.invariant.1 w.if-words-q-ne0.true
+        | then-words-q-ne0 w ↦ w.used-is ∙ used_added ws _ _ below c.loop-q.invariant.1 w.if-words-q-ne0.true
         | else-words-q-ne0 w ↦ w.used-is ∙ used_left ws _ _ below c.loop-q.invariant.1 w.if-words-q-ne0.false
       ],
     )
