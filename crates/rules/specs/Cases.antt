@@ -1,15 +1,12 @@
--- The marked cases of "On both sides of each edge", as one table and one statement over it, and the paper's session of
--- ten lines. Both are shown by computing them; each case also leaves sound tables.
+-- The marked cases of "On both sides of each edge", as one table, a case for each slip, and the paper's session of ten
+-- lines, with what it is to be answered so. proofs/Cases.antt shows all three by computing them.
 -- Rests on all of the definitions.
-use Rattle.std.specs.Prelude.{◌≡◌, refl, Bool, true, ◌&&◌, List, [], ◌∷◌, ◌++◌, ℕ, eqb}
+use Rattle.std.specs.Prelude.{Bool, ◌&&◌, List, [], ◌∷◌, ◌++◌, ℕ, eqb}
 use Prim.Native.Char.{code}
 use Prim.Native.String.{String, [] as no_text, ◌∷◌ as ◌before◌}
-use Rattle.rules.specs.Tests.{all}
-use Rattle.rules.specs.Tables.{Tables, fresh}
+use Rattle.rules.specs.Tables.{Tables}
 use Rattle.rules.specs.Sound.{sound}
 use Rattle.rules.specs.Answers.{Call, call}
-use Rattle.rules.specs.Frames.{fields_of, unused_zero, number_after, digits, kinds, call_in, is_frame, read_frame, write_answer}
-use Rattle.rules.specs.Session.{onto_first, lines, asked, line, answer_lines, session}
 use Rattle.rules.specs.Runs.{starts, reads, writes, prepares, saves, commits, aborts, crashes, restarts, status_of, looks, after}
 
 -- ---- the table: calls from fresh tables, each with its answer's number and value
@@ -38,7 +35,7 @@ two_loads =
     ∷ []
 
 -- the ten marked cases
-pub marked : List (List Line)
+unfoldable pub marked : List (List Line)
 marked =
     -- object 31 is looked at: 00, 0; object 32: 02
     ((looks 31 gives 0x00 with 0) ∷ (looks 32 gives 0x02 with 0) ∷ [])
@@ -73,22 +70,17 @@ marked =
     ∷ []
 
 -- the lines are answered as they say, one after the other, and the tables left are sound
-pub as_marked : Tables → List Line → Bool
+unfoldable pub as_marked : Tables → List Line → Bool
 unfolding after
 as_marked t [] = sound t
 as_marked t (l ∷ ls) =
     let r = call t l.asks in
     eqb r.answer.number l.number && eqb r.answer.value l.value && as_marked r.tables ls
 
--- every marked case is answered as marked
-pub marked_cases : all (as_marked fresh) marked ≡ true
-unfolding as_marked marked fresh
-marked_cases = refl
-
 -- ---- the slips that we have seen or fear: what the rules answer where a slip would answer otherwise
 
 -- a case for each slip
-pub slips : List (List Line)
+unfoldable pub slips : List (List Line)
 slips =
     -- a queued write is the latest: 2 reads what 1 wrote and did not save
     ((starts gives 0x00 with 1)
@@ -116,11 +108,6 @@ slips =
     ∷ (two_loads ++ (restarts gives 0x00 with 2) ∷ (starts gives 0x00 with 3) ∷ (reads 3 0 gives 0x00 with 0) ∷ [])
     ∷ []
 
--- every case of a slip is answered as the rules say
-pub slip_cases : all (as_marked fresh) slips ≡ true
-unfolding as_marked slips fresh
-slip_cases = refl
-
 -- ---- the paper's session
 
 -- the bytes of a text
@@ -129,7 +116,7 @@ bytes no_text = []
 bytes (c before s) = code c ∷ bytes s
 
 -- ten calls, a line each
-pub ten_lines : List ℕ
+unfoldable pub ten_lines : List ℕ
 unfolding bytes
 ten_lines =
     bytes "0100000000000000000000000000\n"
@@ -144,7 +131,7 @@ ten_lines =
     ++ bytes "0b00000002000000000000000000\n"
 
 -- their ten answers
-pub ten_answers : List ℕ
+unfoldable pub ten_answers : List ℕ
 unfolding bytes
 ten_answers =
     bytes "000000000000000001\n"
@@ -157,8 +144,3 @@ ten_answers =
     ++ bytes "000000000000000001\n"
     ++ bytes "060000000000000002\n"
     ++ bytes "000000000000000003\n"
-
--- the session gives the answers
-pub paper_session : session ten_lines ≡ ten_answers
-unfolding as_marked ten_lines ten_answers fresh fields_of unused_zero number_after digits kinds call_in is_frame read_frame write_answer onto_first lines asked line answer_lines session
-paper_session = refl
