@@ -1,9 +1,8 @@
 -- What a run of lines leaves to the next one: sound words, an answer line for each line in the room, and less of the text.
 -- Rests on the rules' Layout and Session, on frames_laws' Lines, words_laws' Words, and on runs' Ran and Kept. Assumes
 -- nothing.
-use mathlib.Core.Path.{◌≡◌}
 use mathlib.Core.Bool.{Bool, true, false, cond}
-use mathlib.Core.List.{List, [], ◌∷◌, ◌++◌}
+use mathlib.Core.List.{List, [], ◌∷◌}
 use Prim.Native.Nat.{ℕ, zero, suc, ◌*◌, ◌/◌, ◌≤◌, ◌<◌}
 use native.Mathlib.Omega.{arith}
 use lib.Dec.{T, eqb}
@@ -36,7 +35,7 @@ first_some (suc k) (b ∷ bs) h i = go (eqb b line_feed) (lines bs)
     go false [] = omega arith
     go false (l ∷ ls) = omega arith
 
-module _ (ws text room vs filled : List ℕ) (r : Ran) (ran : RanLines ws text room r vs filled) where
+module _ {ws text room vs filled : List ℕ} {r : Ran} (ran : RanLines ws text room r vs filled) where
   pub leaves_sound : T (sound_words ws) → T (sound_words vs)
   leaves_sound s =
       rw ran.left (packed_sound _ (lines_sound (unpack ws) (answered text (length room)) (unpacked_sound ws s)))

@@ -3,28 +3,38 @@
 // longer line is no frame.
 #![tactic(auto)]
 
-ghost use Rattle.std.specs.Prelude.{◌≡◌, ◌≤◌, T, length};
+ghost use Rattle.std.specs.Prelude.{◌≡◌, ◌≤◌, T, length, IfOk};
 ghost use Rattle.rules.specs.Layout.{sound_words};
 ghost use Rattle.stepping.specs.Kept.{most_kept, kept_of, Whole, Moved};
 
-use libc::{STDIN_FILENO, STDOUT_FILENO};
+use std::io;
+use std::io::{Read, Write};
 
 const LINE_FEED: u8 = 10;
 
 // A frame has 29 bytes, so what follows the first 30 of a line makes no frame of it.
 const MOST_KEPT: usize = 30;
 
+// How many bytes the input's buffer and the answers' room have each: enough that a call of the system moves thousands of
+// lines.
+const BUFFER_LENGTH: usize = 65536;
+
 // What is left to do after a turn.
 #[derive(Drop)]
 enum Next {
     // To read on behind so many bytes of an unfinished line.
     Keeps(usize),
-    // Nothing: the input has ended, or the answers cannot be written.
+    // Nothing: the input has ended.
     Ends,
 }
 
-// Answers the lines of a text as often as the room has to be emptied. Gives whether the answers could be written.
-fn answer(words: &mut [u64], text: &[u8], room: &mut [u8]) -> bool
+// Answers the lines of a text as often as the room has to be emptied. It stops where the answers cannot be written.
+fn answer<W: Write>(
+    output: &mut W,
+    words: &mut [u64],
+    text: &[u8],
+    room: &mut [u8],
+) -> io::Result<()>
     requires { T (sound_words words.old) × (19 ≤ length room.old) }
     ensures { T (sound_words words.new) }
 {
@@ -32,12 +42,10 @@ fn answer(words: &mut [u64], text: &[u8], room: &mut [u8]) -> bool
     while at < text.len() {
         let ran = runs::run(words, &text[at..], room);
         let filled = 19 * ran.lines;
-        if !io::write_all(STDOUT_FILENO, &room[..filled]) {
-            return false;
-        }
+        output.write_all(&room[..filled])?;
         at += ran.used;
     }
-    true
+    Ok(())
 }
 
 // How many bytes the whole lines of a text have: those up to its last line feed.
@@ -72,52 +80,76 @@ fn keep(buffer: &mut [u8], from: usize, end: usize) -> usize
 }
 
 // Answers the whole lines of the first bytes of the buffer, and keeps the rest of those bytes.
-fn answer_whole(words: &mut [u64], buffer: &mut [u8], room: &mut [u8], end: usize) -> Next
+fn answer_whole<W: Write>(
+    output: &mut W,
+    words: &mut [u64],
+    buffer: &mut [u8],
+    room: &mut [u8],
+    end: usize,
+) -> io::Result<Next>
     requires { T (sound_words words.old) × (19 ≤ length room.old) × (end ≤ length buffer.old) }
-    ensures { T (sound_words words.new) × (kept_of result ≤ most_kept) }
+    ensures sound { T (sound_words words.new) }
+    ensures kept { IfOk result (λ next. kept_of next ≤ most_kept) }
 {
     let whole = whole_length(&buffer[..end]);
-    if !answer(words, &buffer[..whole], room) {
-        return Next::Ends;
-    }
-    Next::Keeps(keep(buffer, whole, end))
+    answer(output, words, &buffer[..whole], room)?;
+    Ok(Next::Keeps(keep(buffer, whole, end)))
 }
 
 // Reads once behind what is kept of an unfinished line, and answers the lines that are whole then. An unfinished line at
 // the input's end is a line too.
-fn turn(words: &mut [u64], buffer: &mut [u8], room: &mut [u8], kept: usize) -> Next
+fn turn<R: Read, W: Write>(
+    input: &mut R,
+    output: &mut W,
+    words: &mut [u64],
+    buffer: &mut [u8],
+    room: &mut [u8],
+    kept: usize,
+) -> io::Result<Next>
     requires { T (sound_words words.old) × (19 ≤ length room.old) × (kept ≤ length buffer.old) }
-    ensures { T (sound_words words.new) × (kept_of result ≤ most_kept) }
+    ensures sound { T (sound_words words.new) }
+    ensures kept { IfOk result (λ next. kept_of next ≤ most_kept) }
 {
-    let got = libc::read(STDIN_FILENO, &mut buffer[kept..]);
-    let more = io::count(got, &buffer[kept..]);
+    let more = input.read(&mut buffer[kept..])?;
     if more == 0 {
-        answer(words, &buffer[..kept], room);
-        return Next::Ends;
+        answer(output, words, &buffer[..kept], room)?;
+        return Ok(Next::Ends);
     }
-    answer_whole(words, buffer, room, kept + more)
+    answer_whole(output, words, buffer, room, kept + more)
 }
 
 // Takes turns to the input's end. A proved loop has to end, and nothing says that an input does: so it counts its turns
-// down from a number that no run uses up.
-fn serve(words: &mut [u64], buffer: &mut [u8], room: &mut [u8])
+// up to a number that no run reaches.
+fn serve<R: Read, W: Write>(
+    input: &mut R,
+    output: &mut W,
+    words: &mut [u64],
+    buffer: &mut [u8],
+    room: &mut [u8],
+) -> io::Result<()>
     requires { T (sound_words words.old) × (19 ≤ length room.old) × (most_kept ≤ length buffer.old) }
+    ensures { T (sound_words words.new) }
 {
     let mut kept = 0;
-    let mut turns = u64::MAX;
-    while 0 < turns {
-        let Next::Keeps(n) = turn(words, buffer, room, kept) else {
-            return;
+    for _ in 0..u64::MAX {
+        let Next::Keeps(n) = turn(input, output, words, buffer, room, kept)? else {
+            return Ok(());
         };
         kept = n;
-        turns -= 1;
     }
+    Ok(())
 }
 
-fn main() {
+fn main(rt: HostRuntime) -> io::Result<()> {
     let mut words = [0u64; 1410];
     ends::fresh(&mut words);
-    let mut buffer = io::large_buffer();
-    let mut room = io::large_buffer();
-    serve(&mut words, &mut buffer, &mut room);
+    let mut buffer = [0u8; BUFFER_LENGTH];
+    let mut room = [0u8; BUFFER_LENGTH];
+    serve(
+        &mut rt.stdin(),
+        &mut rt.stdout(),
+        &mut words,
+        &mut buffer,
+        &mut room,
+    )
 }
