@@ -29,11 +29,10 @@ def missing(name):
     """Why the name is not in the sources, or None."""
     if m := re.fullmatch(r"([a-z_0-9]+)\.([A-Za-z]+)\.(\S+)", name):
         crate, module, item = m.groups()
-        for part in ("specs", "proofs"):
-            path = ROOT / "crates" / crate / part / f"{module}.antt"
-            if path.exists():
-                return None if declares(path.read_text(), item) else f"{path.relative_to(ROOT)} declares no {item}"
-        return f"no file {module}.antt in crates/{crate}"
+        files = [p for part in ("specs", "proofs") if (p := ROOT / "crates" / crate / part / f"{module}.antt").exists()]
+        if not files:
+            return f"no file {module}.antt in crates/{crate}"
+        return None if any(declares(p.read_text(), item) for p in files) else f"{module}.antt of crates/{crate} declares no {item}"
     if m := re.fullmatch(r"([a-z_0-9]+)::([a-z_0-9]+)", name):
         crate, function = m.groups()
         for path in (ROOT / "crates" / crate / "src").rglob("*.rt"):

@@ -32,7 +32,7 @@ C_TYPES = {
 def exported():
     """Name, parameter types and result of each exported call."""
     found = re.findall(
-        r'#\[no_mangle\]\s*pub extern "C" fn (\w+)\(([^)]*)\)\s*->\s*(\w+)', SOURCE.read_text())
+        r'#\[unsafe\(no_mangle\)\]\s*pub extern "C" fn (\w+)\(([^)]*)\)\s*->\s*(\w+)', SOURCE.read_text())
     for name, parameters, result in found:
         types = [p.split(":", 1)[1].strip() for p in parameters.split(",") if p.strip()]
         yield name, [C_TYPES[t] for t in types], C_TYPES[result]
@@ -46,7 +46,7 @@ def declared():
 
 def answer_numbers():
     """Each refusal's name and number, from the definitions."""
-    return re.findall(r"^number-of ([a-z-]+) = (0x[0-9a-f]+)$", ANSWERS.read_text(), flags=re.M)
+    return re.findall(r"^number_of ([a-z_]+) = (0x[0-9a-f]+)$", ANSWERS.read_text(), flags=re.M)
 
 
 def sizes():
@@ -63,7 +63,7 @@ def program(calls):
     for name, types, result in calls:
         lines.append(f'static_assert(std::is_same_v<decltype(&{name}), {result} (*)({", ".join(types)})>, "{name}");')
     for name, number in answer_numbers():
-        lower, upper = name.replace("-", "_"), name.replace("-", "_").upper()
+        lower, upper = name, name.upper()
         lines.append(f'static_assert(MV_{upper} == {number}, "MV_{upper}");')
         lines.append(f'static_assert(mv::Number::{lower} == mv::Number{{{number}}}, "mv::Number::{lower}");')
     for name, value in sizes().items():
