@@ -188,7 +188,8 @@ fn undo_chain(words: &mut [u64], f: u64, o: Obj)
         return;
     }
     let kept = first_fall(words, f, o);
-    if kept < 8 {
+    let cut = kept < 8;
+    if cut {
         cut_chain(words, o, kept as u64);
     }
 }

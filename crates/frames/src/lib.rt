@@ -159,7 +159,8 @@ pub fn read(values: &DigitValues, line: &[u8]) -> Parsed
     requires { values.now ≡ digit_values }
     ensures { parsed_as result ≡ read_frame line.now }
 {
-    if line.len() != 29 {
+    let other_length = line.len() != 29;
+    if other_length {
         return Parsed::Bad;
     }
     if line[28] != LINE_FEED {

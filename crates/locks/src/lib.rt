@@ -30,7 +30,8 @@ fn and_depends_on(words: &[u64], d: u64, y: Txn) -> u64
     requires { T (sound_words words.now) × (d < 2 ^ width) }
     ensures { result ≡ depends_too words.now d (txn_of y) }
 {
-    if y.num == 0 {
+    let nobody = y.num == 0;
+    if nobody {
         return d;
     }
     let p = lookups::place_of(words, y);
@@ -49,7 +50,8 @@ pub fn lock(words: &mut [u64], x: Txn, p: usize, o: Obj)
     words[layout::HOLDER + i] = x.num;
     words[layout::WORKING + i] = latest.value;
     words[layout::ACCESSED + p] = accessed;
-    words[layout::DEPENDS + p] = depends;
+    let at = layout::DEPENDS + p;
+    words[at] = depends;
 }
 
 // The working value of object o, which the transaction x at place p holds, set anew; the object is written.

@@ -57,7 +57,8 @@ pub fn live_place(words: &[u64], x: Txn) -> usize
     requires { T (sound_words words.now) }
     ensures { result ≡ live_place (unpack words.now).live (txn_of x) }
 {
-    if x.num == 0 {
+    let nobody = x.num == 0;
+    if nobody {
         return 32;
     }
     place_of(words, x)

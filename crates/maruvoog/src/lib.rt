@@ -26,7 +26,8 @@ fn one(words: &mut [u64], c: Call) -> Answer
     requires { T (unused_zero (call_of c)) }
     ensures { Leaves (call_words words.old (call_of c)) result words.new }
 {
-    if !tables::sound(words) {
+    let unsound = !tables::sound(words);
+    if unsound {
         return Answer {
             number: UNSOUND,
             value: 0,
@@ -64,7 +65,8 @@ pub extern "C" fn mv_word_count() -> usize
 pub extern "C" fn mv_fresh(words: &mut [u64]) -> Answer
     ensures { Leaves (fresh_words words.old) result words.new }
 {
-    if words.len() == 1410 {
+    let right_count = words.len() == 1410;
+    if right_count {
         ends::fresh(words);
         Answer {
             number: 0,

@@ -55,7 +55,8 @@ pub fn of_start(words: &[u64]) -> Why
     let next = Txn {
         num: words[layout::NEXT],
     };
-    if 999999 < next.num {
+    let spent = 999999 < next.num;
+    if spent {
         return Why::NumbersSpent;
     }
     if lookups::free_places(words) == 0 {
@@ -69,7 +70,8 @@ pub fn of_start(words: &[u64]) -> Why
 pub fn of_object(o: Obj) -> Why
     ensures { RefusesObject (obj_of o) result }
 {
-    if o.num < 32 {
+    let is_object = o.num < 32;
+    if is_object {
         Why::Done
     } else {
         Why::NoSuchObject
@@ -80,7 +82,8 @@ pub fn of_object(o: Obj) -> Why
 pub fn of_set(v: u64) -> Why
     ensures { (ws : List ℕ) → T (sound_words ws) → Refuses ws (calling is_crash nobody (obj 0) v) result }
 {
-    if 4294967296 <= v {
+    let too_large = 4294967296 <= v;
+    if too_large {
         Why::NoSuchObject
     } else {
         Why::Done
@@ -104,7 +107,8 @@ pub fn of_transaction(words: &[u64], x: Txn, p: usize) -> Why
     requires { T (sound_words words.now) × (p ≡ live_place (unpack words.now).live (txn_of x)) }
     ensures { Lives words.now (txn_of x) p result }
 {
-    if p < 32 {
+    let placed = p < 32;
+    if placed {
         return Why::Done;
     }
     if never_given(words, x) {
@@ -118,7 +122,8 @@ fn of_names(words: &[u64], x: Txn, p: usize, o: Obj) -> Why
     requires { T (sound_words words.now) × (p ≡ live_place (unpack words.now).live (txn_of x)) }
     ensures { Names words.now (txn_of x) p (obj_of o) result }
 {
-    if 32 <= o.num {
+    let no_object = 32 <= o.num;
+    if no_object {
         return Why::NoSuchObject;
     }
     of_transaction(words, x, p)
@@ -146,11 +151,8 @@ pub fn of_access(words: &[u64], x: Txn, p: usize, o: Obj) -> Why
     if holder.num == 0 {
         return Why::Done;
     }
-    if x.num < holder.num {
-        Why::Wait
-    } else {
-        Why::Died
-    }
+    let older = x.num < holder.num;
+    if older { Why::Wait } else { Why::Died }
 }
 
 // Prepare.
@@ -174,7 +176,8 @@ pub fn of_prepare(words: &[u64], x: Txn, p: usize, o: Obj) -> Why
         return Why::Lost;
     }
     if sets::has(words[layout::WRITTEN + p], i) {
-        if 8 <= counted(words, o, true) {
+        let full = 8 <= counted(words, o, true);
+        if full {
             return Why::ChainFull;
         }
     }
@@ -267,9 +270,6 @@ pub fn of_commit(words: &[u64], x: Txn, p: usize) -> Why
     if words[layout::DEPENDS + p] != 0 {
         return Why::DependencyLive;
     }
-    if 512 <= words[layout::LOG_COUNT] {
-        Why::LogFull
-    } else {
-        Why::Done
-    }
+    let full = 512 <= words[layout::LOG_COUNT];
+    if full { Why::LogFull } else { Why::Done }
 }

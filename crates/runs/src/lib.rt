@@ -70,7 +70,8 @@ fn first(values: &DigitValues, words: &mut [u64], text: &[u8]) -> Answered
     requires ready { T (sound_words words.old) × (0 < length text.now) }
     ensures { FirstActed words.old text.now result words.new }
 {
-    if text.len() < FRAME {
+    let short = text.len() < FRAME;
+    if short {
         return bad(text);
     }
     let parsed = frames::read(values, &text[..FRAME]);

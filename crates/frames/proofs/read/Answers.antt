@@ -38,7 +38,7 @@ digits_alone c =
 -- where it passes
 module _ (c : Else-not-all_digits) where
   long : length (line (goal.at.Else-not-all_digits c).After-number-low) ≡ frame_length
-  long = c.if-line-ne29.false
+  long = c.if-other_length.false
 
   small : T (digits_alone (goal.at.Else-not-all_digits c).After-number-low)
   small = from_true (digits_alone (goal.at.Else-not-all_digits c).After-number-low) c.if-not-all_digits.false
@@ -46,8 +46,8 @@ module _ (c : Else-not-all_digits) where
   fits : c.number-high.result * no_digit + c.number-low.result < 2 ^ 64
   fits = value_fits _ _ _ _ _ _ (numbers (goal.at.Else-not-all_digits c).After-number-low) long small
 
-pub returns-then-line-ne29 : goal.returns-then-line-ne29
-returns-then-line-ne29 c = wrong_length c.args.line.now c.if-line-ne29.true
+pub returns-then-other_length : goal.returns-then-other_length
+returns-then-other_length c = wrong_length c.args.line.now c.if-other_length.true
 
 pub returns-then-line-ne-LINE_FEED : goal.returns-then-line-ne-LINE_FEED
 returns-then-line-ne-LINE_FEED c = wrong_end c.args.line.now c.if-line-ne-LINE_FEED.true

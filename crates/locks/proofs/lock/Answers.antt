@@ -51,14 +51,14 @@ offset_bounds-words-p-3 c = omega (arith, bounds (goal.at.offset_bounds-words-p-
 pub bounds-words-p-2 : goal.bounds-words-p-2
 bounds-words-p-2 c = simp length-set (omega (arith, bounds (goal.at.bounds-words-p-2 c).Start))
 
-pub overflow_add-words-4 : goal.overflow_add-words-4
-overflow_add-words-4 c = omega (arith, bounds (goal.at.overflow_add-words-4 c).Start)
+pub overflow_add-at : goal.overflow_add-at
+overflow_add-at c = omega (arith, bounds (goal.at.overflow_add-at c).Start)
 
-pub offset_bounds-words-p-4 : goal.offset_bounds-words-p-4
-offset_bounds-words-p-4 c = omega (arith, bounds (goal.at.offset_bounds-words-p-4 c).Start)
+pub offset_bounds-words-at : goal.offset_bounds-words-at
+offset_bounds-words-at c = omega (arith, bounds (goal.at.offset_bounds-words-at c).Start)
 
-pub bounds-words-p-3 : goal.bounds-words-p-3
-bounds-words-p-3 c = simp length-set (omega (arith, bounds (goal.at.bounds-words-p-3 c).Start))
+pub bounds-words-at : goal.bounds-words-at
+bounds-words-at c = simp length-set (omega (arith, bounds (goal.at.bounds-words-at c).Start))
 
 pub returns : goal.returns
 returns c = let e = (goal.at.returns c).Start in

@@ -6,10 +6,10 @@ use Rattle.rules.specs.Layout.{unpack}
 use Rattle.lookups.proofs.Living.{nobody_placed, somebody_placed}
 use Rattle.lookups.proofs.live_place.Goals as goal
 
-pub returns-then-x-eq0 : goal.returns-then-x-eq0
-returns-then-x-eq0 c = let a = c.args in
-    nobody_placed (unpack a.words.now).live (txn a.x.num) c.if-x-eq0.true
+pub returns-then-nobody : goal.returns-then-nobody
+returns-then-nobody c = let a = c.args in
+    nobody_placed (unpack a.words.now).live (txn a.x.num) c.if-nobody.true
 
 pub returns : goal.returns
 returns c = let a = c.args in
-    c.place_of.ensures ∙ somebody_placed (unpack a.words.now).live (txn a.x.num) c.if-x-eq0.false
+    c.place_of.ensures ∙ somebody_placed (unpack a.words.now).live (txn a.x.num) c.if-nobody.false

@@ -17,8 +17,8 @@ wrong_count : (ws : List ℕ) → (length ws ≡ word_count → ⊥) → Leaves 
 unfolding fresh_words rules.number_of
 wrong_count ws e = let t = ne_eqb (length ws) word_count e in record { answer = rw t; words = rw t }
 
-pub returns-then-words-eq1410 : goal.returns-then-words-eq1410
-returns-then-words-eq1410 c = right_count _ _ c.if-words-eq1410.true c.fresh.ensures
+pub returns-then-right_count : goal.returns-then-right_count
+returns-then-right_count c = right_count _ _ c.if-right_count.true c.fresh.ensures
 
-pub returns-else-words-eq1410 : goal.returns-else-words-eq1410
-returns-else-words-eq1410 c = wrong_count _ c.if-words-eq1410.false
+pub returns-else-right_count : goal.returns-else-right_count
+returns-else-right_count c = wrong_count _ c.if-right_count.false

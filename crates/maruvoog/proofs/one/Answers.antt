@@ -8,7 +8,7 @@ use Rattle.basics.specs.Logic.{from_true}
 use Rattle.calls.specs.declared.Answer.{Answer}
 use Rattle.acts.specs.Acted.{Acted}
 use Rattle.maruvoog.specs.Promised.{Leaves}
-use Rattle.maruvoog.proofs.one.Goals.{Else-not-sound}
+use Rattle.maruvoog.proofs.one.Goals.{Else-unsound}
 use Rattle.maruvoog.proofs.one.Goals as goal
 
 on_sound : (ws vs : List ℕ) (q : rules.Call) (a : Answer) → sound_words ws ≡ true → Acted ws q a vs → Leaves (call_words ws q) a vs
@@ -20,14 +20,14 @@ unfolding call_words rules.number_of
 on_unsound ws q e = record { answer = rw e; words = rw e }
 
 -- where the test passed, the words are sound
-found_sound : (c : Else-not-sound) → sound_words c.args.words.now ≡ true
-found_sound c = sym c.sound.ensures ∙ c.if-not-sound.false
+found_sound : (c : Else-unsound) → sound_words c.args.words.now ≡ true
+found_sound c = sym c.sound-unsound.ensures ∙ c.if-unsound.false
 
-pub returns-then-not-sound : goal.returns-then-not-sound
-returns-then-not-sound c = on_unsound _ _ (sym c.sound.ensures ∙ c.if-not-sound.true)
+pub returns-then-unsound : goal.returns-then-unsound
+returns-then-unsound c = on_unsound _ _ (sym c.sound-unsound.ensures ∙ c.if-unsound.true)
 
 pub call-requires : goal.call-requires
-call-requires c = (from_true _ (found_sound (goal.at.call-requires c).Else-not-sound), c.requires)
+call-requires c = (from_true _ (found_sound (goal.at.call-requires c).Else-unsound), c.requires)
 
 pub returns : goal.returns
-returns c = on_sound _ _ _ _ (found_sound (goal.at.returns c).Else-not-sound) c.call.ensures
+returns c = on_sound _ _ _ _ (found_sound (goal.at.returns c).Else-unsound) c.call.ensures

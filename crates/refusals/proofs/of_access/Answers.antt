@@ -103,10 +103,10 @@ pub returns-then-holder-eq0 : goal.returns-then-holder-eq0
 returns-then-holder-eq0 c = let tested : After-has = (goal.at.returns-then-holder-eq0 c).After-has in
     for (goal.at.returns-then-holder-eq0 c).In-Done Done (λ k a v. free (unprepared tested) a v c.if-has.false c.if-holder-eq0.true)
 
-pub returns-then-x-holder : goal.returns-then-x-holder
-returns-then-x-holder c = let tested : After-has = (goal.at.returns-then-x-holder c).After-has in
-    for (goal.at.returns-then-x-holder c).In-Done Wait (λ k a v. waits (unprepared tested) a v c.if-has.false c.if-holder-eq0.false c.if-x-holder.true)
+pub returns-then-older : goal.returns-then-older
+returns-then-older c = let tested : After-has = (goal.at.returns-then-older c).After-has in
+    for (goal.at.returns-then-older c).In-Done Wait (λ k a v. waits (unprepared tested) a v c.if-has.false c.if-holder-eq0.false c.if-older.true)
 
-pub returns-else-x-holder : goal.returns-else-x-holder
-returns-else-x-holder c = let tested : After-has = (goal.at.returns-else-x-holder c).After-has in
-    for (goal.at.returns-else-x-holder c).In-Done Died (λ k a v. dies (unprepared tested) a v c.if-has.false c.if-holder-eq0.false c.if-x-holder.false)
+pub returns-else-older : goal.returns-else-older
+returns-else-older c = let tested : After-has = (goal.at.returns-else-older c).After-has in
+    for (goal.at.returns-else-older c).In-Done Died (λ k a v. dies (unprepared tested) a v c.if-has.false c.if-holder-eq0.false c.if-older.false)

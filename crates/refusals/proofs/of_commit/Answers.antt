@@ -126,8 +126,8 @@ returns-then-words-p-ne0 c = for (goal.at.returns-then-words-p-ne0 c).In-Done De
 pub bounds-words-1 : goal.bounds-words-1
 bounds-words-1 c = omega (arith, fits (goal.at.bounds-words-1 c).In-Done)
 
-pub returns-then-words-ge512 : goal.returns-then-words-ge512
-returns-then-words-ge512 c = for (goal.at.returns-then-words-ge512 c).In-Done LogFull (full (whole (goal.at.returns-then-words-ge512 c).After-first_unsaved) c.if-first_unsaved-lt32.false c.if-words-p-ne0.false c.if-words-ge512.true)
+pub returns-then-full : goal.returns-then-full
+returns-then-full c = for (goal.at.returns-then-full c).In-Done LogFull (full (whole (goal.at.returns-then-full c).After-first_unsaved) c.if-first_unsaved-lt32.false c.if-words-p-ne0.false c.if-full.true)
 
-pub returns-else-words-ge512 : goal.returns-else-words-ge512
-returns-else-words-ge512 c = for (goal.at.returns-else-words-ge512 c).In-Done Done (commit_done (whole (goal.at.returns-else-words-ge512 c).After-first_unsaved) c.if-first_unsaved-lt32.false c.if-words-p-ne0.false c.if-words-ge512.false)
+pub returns-else-full : goal.returns-else-full
+returns-else-full c = for (goal.at.returns-else-full c).In-Done Done (commit_done (whole (goal.at.returns-else-full c).After-first_unsaved) c.if-first_unsaved-lt32.false c.if-words-p-ne0.false c.if-full.false)

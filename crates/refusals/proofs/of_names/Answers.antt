@@ -11,14 +11,14 @@ use Rattle.refusals.specs.Reasons.{calling}
 use Rattle.refusals.proofs.Deciding.{some_not_none, because, no_reason, after}
 use Rattle.refusals.proofs.of_names.Goals as goal
 
-pub returns-then-o-ge32 : goal.returns-then-o-ge32
-returns-then-o-ge32 c = let ws : List ℕ = c.args.words.now in
+pub returns-then-no_object : goal.returns-then-no_object
+returns-then-no_object c = let ws : List ℕ = c.args.words.now in
     let x : Txn = txn c.args.x.num in
     let o : Obj = obj c.args.o.num in
     record {
       first_of = λ k d v.
           because ws (calling k x o v) naming NoSuchObject no_such_object refl
-          (object_first (unpack ws) (calling k x o v) living d c.if-o-ge32.true);
+          (object_first (unpack ws) (calling k x o v) living d c.if-no_object.true);
       object_below = λ e. absurd (some_not_none no_such_object e);
       placed = λ e. absurd (some_not_none no_such_object e);
     }
@@ -31,8 +31,8 @@ returns c = let ws : List ℕ = c.args.words.now in
     record {
       first_of = λ k d v.
           after ws (calling k x o v) (no_such_object ∷ []) living
-          (no_reason ws (calling k x o v) (no_such_object ∷ []) (object_none (unpack ws) (calling k x o v) d c.if-o-ge32.false))
+          (no_reason ws (calling k x o v) (no_such_object ∷ []) (object_none (unpack ws) (calling k x o v) d c.if-no_object.false))
           c.of_transaction.result (lives.first_of k o v);
-      object_below = λ e. c.if-o-ge32.false;
+      object_below = λ e. c.if-no_object.false;
       placed = lives.placed;
     }

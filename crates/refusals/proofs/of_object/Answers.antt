@@ -21,14 +21,14 @@ module _ (ws : List ℕ) (s : T (sound_words ws)) (o : ℕ) (k : Kind) (no_crash
       decides ws (asking k 0 o 0) (no_such_object ∷ []) s in_order NoSuchObject
       (because ws (asking k 0 o 0) (no_such_object ∷ []) NoSuchObject no_such_object refl (object_first (unpack ws) (asking k 0 o 0) [] no_crash h))
 
-pub returns-then-o-lt32 : goal.returns-then-o-lt32
+pub returns-then-is_object : goal.returns-then-is_object
 unfolding order kind_number
-returns-then-o-lt32 c = λ ws s.
+returns-then-is_object c = λ ws s.
     let o : ℕ = c.args.o.num in
-    (an_object ws s o is_save refl refl c.if-o-lt32.true, an_object ws s o is_settle refl refl c.if-o-lt32.true, an_object ws s o is_look refl refl c.if-o-lt32.true)
+    (an_object ws s o is_save refl refl c.if-is_object.true, an_object ws s o is_settle refl refl c.if-is_object.true, an_object ws s o is_look refl refl c.if-is_object.true)
 
-pub returns-else-o-lt32 : goal.returns-else-o-lt32
+pub returns-else-is_object : goal.returns-else-is_object
 unfolding order kind_number
-returns-else-o-lt32 c = λ ws s.
+returns-else-is_object c = λ ws s.
     let o : ℕ = c.args.o.num in
-    (past_objects ws s o is_save refl refl c.if-o-lt32.false, past_objects ws s o is_settle refl refl c.if-o-lt32.false, past_objects ws s o is_look refl refl c.if-o-lt32.false)
+    (past_objects ws s o is_save refl refl c.if-is_object.false, past_objects ws s o is_settle refl refl c.if-is_object.false, past_objects ws s o is_look refl refl c.if-is_object.false)

@@ -116,19 +116,19 @@ bounds-words-p-3 c = let at : In-Done = (goal.at.bounds-words-p-3 c).In-Done in
 pub has-requires-3 : goal.has-requires-3
 has-requires-3 c = (known (goal.at.has-requires-3 c).In-Done).object_below
 
-pub counted-requires : goal.counted-requires
-counted-requires c = let at : In-Done = (goal.at.counted-requires c).In-Done in
+pub counted-full-requires : goal.counted-full-requires
+counted-full-requires c = let at : In-Done = (goal.at.counted-full-requires c).In-Done in
     ((start at).requires.0, (known at).object_below)
 
-pub returns-then-counted-ge8 : goal.returns-then-counted-ge8
-returns-then-counted-ge8 c = for (goal.at.returns-then-counted-ge8 c).In-Done ChainFull
-    (full (still_open (goal.at.returns-then-counted-ge8 c).After-holder-holder) c.if-holder-x.false c.has-3.result c.has-3.ensures c.if-has-2.true
-    (omega (arith, c.counted.ensures, c.if-counted-ge8.true)))
+pub returns-then-full : goal.returns-then-full
+returns-then-full c = for (goal.at.returns-then-full c).In-Done ChainFull
+    (full (still_open (goal.at.returns-then-full c).After-holder-holder) c.if-holder-x.false c.has-3.result c.has-3.ensures c.if-has-2.true
+    (omega (arith, c.counted-full.ensures, c.if-full.true)))
 
-pub returns-else-counted-ge8 : goal.returns-else-counted-ge8
-returns-else-counted-ge8 c = for (goal.at.returns-else-counted-ge8 c).In-Done Done
-    (room (still_open (goal.at.returns-else-counted-ge8 c).After-holder-holder) c.if-holder-x.false c.has-3.result c.has-3.ensures
-    (omega (arith, c.counted.ensures, c.if-counted-ge8.false)))
+pub returns-else-full : goal.returns-else-full
+returns-else-full c = for (goal.at.returns-else-full c).In-Done Done
+    (room (still_open (goal.at.returns-else-full c).After-holder-holder) c.if-holder-x.false c.has-3.result c.has-3.ensures
+    (omega (arith, c.counted-full.ensures, c.if-full.false)))
 
 pub returns-else-has-2 : goal.returns-else-has-2
 returns-else-has-2 c = for (goal.at.returns-else-has-2 c).In-Done Done

@@ -9,16 +9,16 @@ use Rattle.refusals.specs.Reasons.{asking}
 use Rattle.refusals.proofs.Deciding.{because, no_reason, decides}
 use Rattle.refusals.proofs.of_set.Goals as goal
 
-pub returns-then-v-ge4294967296 : goal.returns-then-v-ge4294967296
+pub returns-then-too_large : goal.returns-then-too_large
 unfolding order kind_number
-returns-then-v-ge4294967296 c = λ ws s.
+returns-then-too_large c = λ ws s.
     let call : Call = asking is_crash 0 0 c.args.v in
     decides ws call (no_such_object ∷ []) s refl NoSuchObject
-    (because ws call (no_such_object ∷ []) NoSuchObject no_such_object refl (set_first (unpack ws) call refl c.if-v-ge4294967296.true))
+    (because ws call (no_such_object ∷ []) NoSuchObject no_such_object refl (set_first (unpack ws) call refl c.if-too_large.true))
 
-pub returns-else-v-ge4294967296 : goal.returns-else-v-ge4294967296
+pub returns-else-too_large : goal.returns-else-too_large
 unfolding order kind_number
-returns-else-v-ge4294967296 c = λ ws s.
+returns-else-too_large c = λ ws s.
     let call : Call = asking is_crash 0 0 c.args.v in
     decides ws call (no_such_object ∷ []) s refl Done
-    (no_reason ws call (no_such_object ∷ []) (set_none (unpack ws) call refl c.if-v-ge4294967296.false))
+    (no_reason ws call (no_such_object ∷ []) (set_none (unpack ws) call refl c.if-too_large.false))

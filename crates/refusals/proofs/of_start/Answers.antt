@@ -11,7 +11,7 @@ use Rattle.refusals.specs.Reasons.{asking, Refuses, FirstOf}
 use Rattle.lookups.proofs.Fitting.{fitting}
 use Rattle.refusals.proofs.Readings.{saying}
 use Rattle.refusals.proofs.Deciding.{because, no_reason, decides}
-use Rattle.refusals.proofs.of_start.Goals.{Else-next-gt999999, Start}
+use Rattle.refusals.proofs.of_start.Goals.{Else-spent, Start}
 use Rattle.refusals.proofs.of_start.Goals as goal
 
 abbrev call : Call
@@ -24,28 +24,28 @@ for : (ws : List ℕ) → T (sound_words ws) → (w : Why) → FirstOf ws call r
 unfolding order
 for ws s = decides ws call reasons s refl
 
-numbers_left : (c : Else-next-gt999999) → (unpack c.args.words.now).next.num ≤ last_number
+numbers_left : (c : Else-spent) → (unpack c.args.words.now).next.num ≤ last_number
 numbers_left c =
-    let start : Start = (goal.at.Else-next-gt999999 c).Start in
-    omega (arith, (saying start.args.words.now start.requires).next, c.if-next-gt999999.false)
+    let start : Start = (goal.at.Else-spent c).Start in
+    omega (arith, (saying start.args.words.now start.requires).next, c.if-spent.false)
 
 pub bounds-words-0 : goal.bounds-words-0
 bounds-words-0 c = omega (arith, fitting c.args.words.now c.requires)
 
-pub returns-then-next-gt999999 : goal.returns-then-next-gt999999
-returns-then-next-gt999999 c = let ws : List ℕ = c.args.words.now in
+pub returns-then-spent : goal.returns-then-spent
+returns-then-spent c = let ws : List ℕ = c.args.words.now in
     for ws c.requires NumbersSpent
     (because ws call reasons NumbersSpent numbers_spent refl
-    (spent_first (unpack ws) call (omega (arith, (saying ws c.requires).next, c.if-next-gt999999.true))))
+    (spent_first (unpack ws) call (omega (arith, (saying ws c.requires).next, c.if-spent.true))))
 
 pub returns-then-free_places-eq0 : goal.returns-then-free_places-eq0
 returns-then-free_places-eq0 c = let ws : List ℕ = c.args.words.now in
     for ws c.requires PlacesFull
     (because ws call reasons PlacesFull places_full refl
-    (full_first (unpack ws) call (numbers_left (goal.at.returns-then-free_places-eq0 c).Else-next-gt999999) (sym c.free_places.ensures ∙ c.if-free_places-eq0.true)))
+    (full_first (unpack ws) call (numbers_left (goal.at.returns-then-free_places-eq0 c).Else-spent) (sym c.free_places.ensures ∙ c.if-free_places-eq0.true)))
 
 pub returns-else-free_places-eq0 : goal.returns-else-free_places-eq0
 returns-else-free_places-eq0 c = let ws : List ℕ = c.args.words.now in
     for ws c.requires Done
     (no_reason ws call reasons
-    (start_none (unpack ws) call (numbers_left (goal.at.returns-else-free_places-eq0 c).Else-next-gt999999) (λ z. c.if-free_places-eq0.false (c.free_places.ensures ∙ z))))
+    (start_none (unpack ws) call (numbers_left (goal.at.returns-else-free_places-eq0 c).Else-spent) (λ z. c.if-free_places-eq0.false (c.free_places.ensures ∙ z))))

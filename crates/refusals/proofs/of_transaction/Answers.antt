@@ -12,26 +12,26 @@ use Rattle.refusals.specs.declared.Why.TheVariants.{NeverGivenOut, NoLongerLive}
 use Rattle.refusals.specs.Reasons.{calling}
 use Rattle.refusals.proofs.Readings.{set_passes, unset_fails}
 use Rattle.refusals.proofs.Deciding.{some_not_none, because, no_reason}
-use Rattle.refusals.proofs.of_transaction.Goals.{Else-p-lt32, Start}
+use Rattle.refusals.proofs.of_transaction.Goals.{Else-placed, Start}
 use Rattle.refusals.proofs.of_transaction.Goals as goal
 
 -- it has no place
-gone : (c : Else-p-lt32)
-    → let start : Start = (goal.at.Else-p-lt32 c).Start in
+gone : (c : Else-placed)
+    → let start : Start = (goal.at.Else-placed c).Start in
     T (is_live (unpack start.args.words.now).live (txn start.args.x.num)) → ⊥
 gone c l =
-    let start : Start = (goal.at.Else-p-lt32 c).Start in
+    let start : Start = (goal.at.Else-placed c).Start in
     let h = below_live (unpack start.args.words.now).live (txn start.args.x.num) start.args.p start.requires.1 l in
-    omega (arith, c.if-p-lt32.false)
+    omega (arith, c.if-placed.false)
 
-pub returns-then-p-lt32 : goal.returns-then-p-lt32
-returns-then-p-lt32 c = let ws : List ℕ = c.args.words.now in
+pub returns-then-placed : goal.returns-then-placed
+returns-then-placed c = let ws : List ℕ = c.args.words.now in
     let x : Txn = txn c.args.x.num in
     record {
       first_of = λ k o v.
           no_reason ws (calling k x o v) living
-          (living_none (unpack ws) (calling k x o v) (unpacked_sound ws c.requires.0) (live_below (unpack ws).live x c.args.p c.requires.1 c.if-p-lt32.true));
-      placed = λ e. c.if-p-lt32.true;
+          (living_none (unpack ws) (calling k x o v) (unpacked_sound ws c.requires.0) (live_below (unpack ws).live x c.args.p c.requires.1 c.if-placed.true));
+      placed = λ e. c.if-placed.true;
     }
 
 pub returns-then-never_given : goal.returns-then-never_given
@@ -52,6 +52,6 @@ returns c = let ws : List ℕ = c.args.words.now in
     record {
       first_of = λ k o v.
           because ws (calling k x o v) living NoLongerLive no_longer_live refl
-          (gone_first (unpack ws) (calling k x o v) (unset_fails c.never_given.result _ c.never_given.ensures c.if-never_given.false) (gone (goal.at.returns c).Else-p-lt32));
+          (gone_first (unpack ws) (calling k x o v) (unset_fails c.never_given.result _ c.never_given.ensures c.if-never_given.false) (gone (goal.at.returns c).Else-placed));
       placed = λ e. absurd (some_not_none no_longer_live e);
     }

@@ -41,11 +41,11 @@ bad_acted ws text r e s bad =
 reads_as : (c : In-Asks) → some (call_of c.in-Asks.c) ≡ read_frame (take frame_length c.args.text.now)
 reads_as c = ap parsed_as (sym c.in-Asks.is) ∙ c.read-parsed.ensures
 
-pub returns-then-text-lt-FRAME : goal.returns-then-text-lt-FRAME
-returns-then-text-lt-FRAME c = bad_acted _ _ _ (short c.args.text.now c.if-text-lt-FRAME.true) c.requires.ready.0 c.bad.ensures
+pub returns-then-short : goal.returns-then-short
+returns-then-short c = bad_acted _ _ _ (short c.args.text.now c.if-short.true) c.requires.ready.0 c.bad.ensures
 
 pub slice_bounds-read-end : goal.slice_bounds-read-end
-slice_bounds-read-end c = sym (length-take-le _ c.args.text.now c.if-text-lt-FRAME.false)
+slice_bounds-read-end c = sym (length-take-le _ c.args.text.now c.if-short.false)
 
 pub call-requires : goal.call-requires
 call-requires c = (c.requires.ready.0, read_unused_zero _ _ (sym (reads_as (goal.at.call-requires c).In-Asks)))

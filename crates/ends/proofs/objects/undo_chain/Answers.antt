@@ -20,14 +20,14 @@ pub returns-then-no_entries : goal.returns-then-no_entries
 returns-then-no_entries c = let a = (entry (goal.at.returns-then-no_entries c).After-no_entries).args in
     chain_empty a.f a.o.num a.words.now (sym c.if-no_entries.true ∙ c.no_entries.ensures)
 
-pub returns-then-kept-lt8 : goal.returns-then-kept-lt8
-returns-then-kept-lt8 c = let asked : After-first_fall-kept = (goal.at.returns-then-kept-lt8 c).After-first_fall-kept in
+pub returns-then-cut : goal.returns-then-cut
+returns-then-cut c = let asked : After-first_fall-kept = (goal.at.returns-then-cut c).After-first_fall-kept in
     let a = (start asked).args in
     chain_cut a.f a.o.num a.words.now (some asked) c.first_fall-kept.result c.first_fall-kept.ensures
     (omega arith) c.cut_chain.ensures
 
-pub returns-else-kept-lt8 : goal.returns-else-kept-lt8
-returns-else-kept-lt8 c = let asked : After-first_fall-kept = (goal.at.returns-else-kept-lt8 c).After-first_fall-kept in
+pub returns-else-cut : goal.returns-else-cut
+returns-else-cut c = let asked : After-first_fall-kept = (goal.at.returns-else-cut c).After-first_fall-kept in
     let a = (start asked).args in
     chain_whole a.f a.o.num a.words.now (some asked) c.first_fall-kept.result c.first_fall-kept.ensures
     (omega arith)
