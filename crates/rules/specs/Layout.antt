@@ -68,7 +68,7 @@ saved_count_at = 834
 abbrev pub queued_count_at : ℕ
 queued_count_at = 866
 
--- entry j of object i's chain: its value at chain-value-at + 8 * i + j, its transaction at chain-writer-at + 8 * i + j
+-- entry j of object i's chain: its value at chain_value_at + 8 * i + j, its transaction at chain_writer_at + 8 * i + j
 abbrev pub chain_value_at : ℕ
 chain_value_at = 898
 
