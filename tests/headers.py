@@ -1,5 +1,5 @@
 #!/usr/bin/env python3
-"""Holds include/mv.h and include/mv.hpp against the calls that crates/maruvoog exports: a signature, an answer number or a
+"""Holds include/mv.h and include/mv.hpp against the calls that crates/maruvoog_c exports: a signature, an answer number or a
 size that differs fails.
 
 The signatures are read from the core's source and turned into a C++ program that asserts each type and makes each call
@@ -12,7 +12,7 @@ import sys
 import tempfile
 
 ROOT = pathlib.Path(__file__).resolve().parent.parent
-SOURCE = ROOT / "crates/maruvoog/src/lib.rt"
+SOURCE = ROOT / "crates/maruvoog_c/src/lib.rt"
 ANSWERS = ROOT / "crates/rules/specs/Answers.antt"
 LAYOUT = ROOT / "crates/layout/src/lib.rt"
 FRAMES = {"MV_CALL_LINE": 29, "MV_ANSWER_LINE": 19}
