@@ -2,7 +2,7 @@
 """Holds the table of claims against the sources: every definition, theorem, contract, edit and test that a row names
 must exist. A name stands in backticks:
   `crate.File.name`   a declaration of crates/crate/specs/File.antt (or proofs/File.antt)
-  `crate::function`   a function of crates/crate/src
+  `crate::function`   a function of crates/crate/src, `crate::Type::function` one of a type
   `crate/edit`        an edit of crates/crate/must-fail
   `edits/name`        an edit of tests/edits
   `tests/..`, `examples/..`   a file of the repository
@@ -33,7 +33,7 @@ def missing(name):
         if not files:
             return f"no file {module}.antt in crates/{crate}"
         return None if any(declares(p.read_text(), item) for p in files) else f"{module}.antt of crates/{crate} declares no {item}"
-    if m := re.fullmatch(r"([a-z_0-9]+)::([a-z_0-9]+)", name):
+    if m := re.fullmatch(r"([a-z_0-9]+)::(?:[A-Za-z]+::)?([a-z_0-9]+)", name):
         crate, function = m.groups()
         for path in (ROOT / "crates" / crate / "src").rglob("*.rt"):
             if re.search(rf"\bfn {function}\b", path.read_text()):

@@ -2,15 +2,15 @@
 -- Rests on the rules' Frames, on basics and the refusals' Reasons. Assumes nothing.
 use mathlib.Core.Path.{◌≡◌, refl, ap, sym, subst}
 use mathlib.Core.Bool.{Bool, true, false, cond, ◌&&◌, ◌||◌}
-use mathlib.Core.List.{List}
+use Rattle.std.specs.Prelude.{Result}
 use Prim.Native.Nat.{ℕ}
 use lib.Dec.{T, eqb}
-use Rattle.rules.specs.Tables.{Txn, Obj, txn, obj}
+use Rattle.rules.specs.Tables.{Tables, Txn, Obj, txn, obj}
 use Rattle.rules.specs.Answers.{Kind, Call}
 use Rattle.rules.specs.Frames.{Fields, fields_of, unused_zero}
 use Rattle.basics.specs.Logic.{and_says, equal_says}
 use Rattle.refusals.specs.Reasons.{Refuses}
-use Rattle.refusals.specs.declared.Why.{Why}
+use Rattle.calls.specs.declared.Refusal.{Refusal}
 
 -- the call with another kind
 abbrev pub of_kind : Kind → Call → Call
@@ -55,8 +55,8 @@ bare_same c u =
     }
 
 -- what refuses the call of the used fields refuses the call
-pub refused_as : (ws : List ℕ) (c : Call) (k : Kind) (w : Why) → c.kind ≡ k → T (unused_zero c)
-    → Refuses ws (bare (fields_of k) (of_kind k c)) w → Refuses ws c w
-refused_as ws c k w e u h =
-    subst (λ (b : Call). Refuses ws b w) (bare_same c u)
-    (subst (λ (j : Kind). Refuses ws (bare (fields_of j) (of_kind j c)) w) (sym e) h)
+pub refused_as : (t : Tables) (c : Call) (k : Kind) (w : Result Unit Refusal) → c.kind ≡ k → T (unused_zero c)
+    → Refuses t (bare (fields_of k) (of_kind k c)) w → Refuses t c w
+refused_as t c k w e u h =
+    subst (λ (b : Call). Refuses t b w) (bare_same c u)
+    (subst (λ (j : Kind). Refuses t (bare (fields_of j) (of_kind j c)) w) (sym e) h)

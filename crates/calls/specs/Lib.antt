@@ -1,1 +1,3 @@
+pub mod Calls
+pub mod Kinds
 pub mod Meaning

@@ -1,15 +1,16 @@
 // The steps that end transactions, move versions on and lose them, on sound words: commit, undo, settle, crash, restart;
-// and fresh tables. Each leaves what the rules' step of that name leaves.
+// and fresh tables. Each leaves what the rules' step of that name leaves. The words are the lent slice, as document 01 names it,
+// and their length a clause: a struct around the `&mut` would have to say in each contract that they are the same words still.
 #![tactic(auto)]
 
 mod objects;
 
-ghost use Rattle.std.specs.Prelude.{◌≡◌, cond, not, ℕ, ◌+◌, ◌<◌, ◌^◌, T, eqb, length};
+ghost use Rattle.std.specs.Prelude.{◌≡◌, cond, ℕ, List, ◌+◌, ◌<◌, ◌^◌, T, length};
 ghost use Rattle.rules.specs.Sets.{width, has};
-ghost use Rattle.rules.specs.Tables.{object_count, place_count, log_room, fresh as fresh_tables, is_live, place_of};
+ghost use Rattle.rules.specs.Tables.{object_count, place_count, log_room, fresh as fresh_tables};
 ghost use Rattle.rules.specs.Steps.{commit as committed, undo as undone_all, settle as settled_at, settle_count, crash as crashed_at, crash_count, restart as restarted, live_count};
-ghost use Rattle.rules.specs.Layout.{log_count_at, number_at, depends_at, queued_count_at, word_count, sound_words, unpack, pack, word};
-ghost use Rattle.calls.specs.Meaning.{txn_of, obj_of};
+ghost use Rattle.rules.specs.Layout.{log_count_at, depends_at, queued_count_at, word_count, sound_words, unpack, pack, word};
+ghost use Rattle.calls.specs.Meaning.{IsLive, txn_of, object_of};
 ghost use Rattle.ends_laws.specs.Loops.{loop};
 ghost use Rattle.ends_laws.specs.Places.{free_words, add_record as record_added};
 ghost use Rattle.ends_laws.specs.Commit.{strike as struck};
@@ -18,8 +19,37 @@ ghost use Rattle.ends_laws.specs.Crash.{crash_object as crashed_object};
 ghost use Rattle.ends_laws.specs.Restart.{wipe as wiped, used_count, settle_first};
 ghost use Rattle.ends_laws.specs.Fresh.{OneFirst};
 ghost use Rattle.ends.specs.Closed.{Closed};
+ghost use Rattle.ends.specs.Turns.{Takes, Leaves};
 
-use calls::{Obj, Txn};
+use calls::{Live, Object, Place, Txn};
+use lent::Tables;
+
+// ---- turns
+
+// Not for strike_all, crash and settle_all: their steps ask more of the words than their length, or give a number. One function
+// over a trait of what is made of a number proves too: the trait and its impls take 24 lines, the second function 12.
+
+// Takes a step at each object.
+fn each_object<F: Fn(&mut [u64], Object)>(words: &mut [u64], step: F)
+    requires { (length words.old ≡ word_count) × Takes F.Fn step }
+    ensures { (leaves : ℕ → List ℕ → List ℕ) → Leaves F.Fn step (λ o. leaves o.num)
+        → words.new ≡ loop object_count leaves words.old }
+{
+    for i in 0..32 {
+        step(words, Object { num: i });
+    }
+}
+
+// Takes a step at each place.
+fn each_place<F: Fn(&mut [u64], Place)>(words: &mut [u64], step: F)
+    requires { (length words.old ≡ word_count) × Takes F.Fn step }
+    ensures { (leaves : ℕ → List ℕ → List ℕ) → Leaves F.Fn step (λ p. leaves p.num)
+        → words.new ≡ loop place_count leaves words.old }
+{
+    for p in 0..32 {
+        step(words, Place { num: p });
+    }
+}
 
 // ---- fresh tables
 
@@ -28,12 +58,10 @@ fn fresh_log(words: &mut [u64])
     requires { length words.old ≡ word_count }
     ensures { OneFirst words.new 514 }
 {
-    let log = [0u64; 512];
+    let log = [0u64; layout::LOG_ROOM];
     words[layout::NEXT] = 1;
     words[layout::LOG_COUNT] = 0;
-    for i in 0..512 {
-        words[layout::LOG + i] = log[i];
-    }
+    words[layout::LOG..layout::NUMBER].copy_from_slice(&log);
 }
 
 // Nothing past the log.
@@ -41,9 +69,7 @@ fn zero_rest(words: &mut [u64])
     requires { (length words.old ≡ word_count) × OneFirst words.old 514 }
     ensures { OneFirst words.new word_count }
 {
-    for k in 514..1410 {
-        words[k] = 0;
-    }
+    words[layout::NUMBER..layout::WORDS].fill(0);
 }
 
 // Makes the words fresh, whatever they held.
@@ -68,30 +94,30 @@ fn add_record(words: &mut [u64], x: Txn)
 }
 
 // Strikes place p from the dependencies of place q.
-fn strike(words: &mut [u64], p: usize, q: usize)
-    requires { (length words.old ≡ word_count) × (p < place_count) × (q < place_count)
-        × (word words.old (depends_at + q) < 2 ^ width) }
-    ensures { words.new ≡ struck p q words.old }
+fn strike(words: &mut [u64], p: Place, q: Place)
+    requires { (length words.old ≡ word_count) × (word words.old (depends_at + q.num) < 2 ^ width) }
+    ensures { words.new ≡ struck p.num q.num words.old }
 {
-    words[layout::DEPENDS + q] = sets::without(words[layout::DEPENDS + q], p as u64);
+    words[layout::DEPENDS + q.num] = sets::without(words[layout::DEPENDS + q.num], p.num);
 }
 
 // Strikes place p from all dependencies.
-fn strike_all(words: &mut [u64], p: usize)
-    requires { (length words.old ≡ word_count) × (p < place_count)
+fn strike_all(words: &mut [u64], p: Place)
+    requires { (length words.old ≡ word_count)
         × ((q : ℕ) → q < place_count → word words.old (depends_at + q) < 2 ^ width) }
-    ensures { words.new ≡ loop place_count (struck p) words.old }
+    ensures { words.new ≡ loop place_count (struck p.num) words.old }
 {
     for q in 0..32 {
-        strike(words, p, q);
+        strike(words, p, Place { num: q });
     }
 }
 
-// Frees place p.
-fn free_place(words: &mut [u64], p: usize)
-    requires { (length words.old ≡ word_count) × (p < place_count) }
-    ensures { words.new ≡ free_words p words.old }
+// Frees a place.
+fn free_place(words: &mut [u64], p: Place)
+    requires { length words.old ≡ word_count }
+    ensures { words.new ≡ free_words p.num words.old }
 {
+    let p = p.num;
     words[layout::NUMBER + p] = 0;
     words[layout::ACCESSED + p] = 0;
     words[layout::WRITTEN + p] = 0;
@@ -99,45 +125,25 @@ fn free_place(words: &mut [u64], p: usize)
     words[layout::DEPENDS + p] = 0;
 }
 
-// Adds the next log record for the transaction x at place p, frees the place, strikes it from all dependency sets.
-pub fn commit(words: &mut [u64], x: Txn, p: usize)
-    requires { T (sound_words words.old) × T (is_live (unpack words.old).live (txn_of x))
-        × (p ≡ place_of (unpack words.old).live (txn_of x))
-        × (length (unpack words.old).log < log_room) }
-    ensures { words.new ≡ pack (committed (unpack words.old) (txn_of x)) }
+// Adds the next log record for a live transaction, frees its place, strikes that from all dependency sets.
+pub fn commit(words: &mut [u64], live: Live)
+    requires { T (sound_words words.old) × IsLive (unpack words.old) live × (length (unpack words.old).log < log_room) }
+    ensures { words.new ≡ pack (committed (unpack words.old) (txn_of live.who)) }
 {
-    add_record(words, x);
-    strike_all(words, p);
-    free_place(words, p);
+    add_record(words, live.who);
+    strike_all(words, live.place);
+    free_place(words, live.place);
 }
 
 // ---- undo
 
 // Frees place p if it is one of f.
-fn undo_place(words: &mut [u64], f: u64, p: usize)
-    requires { (length words.old ≡ word_count) × (p < place_count) }
-    ensures { words.new ≡ undone_place f p words.old }
+fn undo_place(words: &mut [u64], f: u64, p: Place)
+    requires { length words.old ≡ word_count }
+    ensures { words.new ≡ undone_place f p.num words.old }
 {
-    if sets::has(f, p as u64) {
+    if sets::has(f, p.num) {
         free_place(words, p);
-    }
-}
-
-fn undo_objects(words: &mut [u64], f: u64)
-    requires { length words.old ≡ word_count }
-    ensures { words.new ≡ loop object_count (undone_object f) words.old }
-{
-    for i in 0..32 {
-        objects::undo_object(words, f, Obj { num: i });
-    }
-}
-
-fn undo_places(words: &mut [u64], f: u64)
-    requires { length words.old ≡ word_count }
-    ensures { words.new ≡ loop place_count (undone_place f) words.old }
-{
-    for p in 0..32 {
-        undo_place(words, f, p);
     }
 }
 
@@ -147,20 +153,21 @@ pub fn undo(words: &mut [u64], f: u32)
     ensures { words.new ≡ pack (undone_all (unpack words.old) f) }
 {
     // The objects first: who falls goes by the places.
-    undo_objects(words, f as u64);
-    undo_places(words, f as u64);
+    let f = f as u64;
+    each_object(words, |ws, o| objects::undo_object(ws, f, o));
+    each_place(words, |ws, p| undo_place(ws, f, p));
 }
 
 // ---- crash
 
 // Frees the lock of object o and drops its queued entries, if it is one of the set; gives how many.
-fn crash_object(words: &mut [u64], objects: u64, o: Obj) -> u64
-    requires { (length words.old ≡ word_count) × (o.num < object_count) }
+fn crash_object(words: &mut [u64], objects: u64, o: Object) -> u64
+    requires { length words.old ≡ word_count }
     ensures { (result ≡ cond (has objects o.num) (word words.old (queued_count_at + o.num)) 0)
         × (words.new ≡ crashed_object objects o.num words.old) }
 {
     let i = o.num;
-    if sets::has(objects, i as u64) {
+    if sets::has(objects, i) {
         let saved = words[layout::SAVED_COUNT + i];
         let dropped = words[layout::QUEUED_COUNT + i];
         objects::keep_saved(words, o, saved);
@@ -171,14 +178,14 @@ fn crash_object(words: &mut [u64], objects: u64, o: Obj) -> u64
 }
 
 // Frees the locks of the objects of a set and drops their queued entries; gives how many were dropped.
-pub fn crash(words: &mut [u64], objects: u64) -> u64
-    requires { T (sound_words words.old) × (objects < 2 ^ width) }
+pub fn crash(words: &mut [u64], objects: u32) -> u64
+    requires { T (sound_words words.old) }
     ensures { (result ≡ crash_count (unpack words.old) objects)
         × (words.new ≡ pack (crashed_at (unpack words.old) objects)) }
 {
     let mut dropped = 0;
     for i in 0..32 {
-        dropped += crash_object(words, objects, Obj { num: i });
+        dropped += crash_object(words, objects as u64, Object { num: i });
     }
     dropped
 }
@@ -186,41 +193,32 @@ pub fn crash(words: &mut [u64], objects: u64) -> u64
 // ---- settle
 
 // The leading logged entries of object o leave its chain, the last of them becomes the stable version; gives how many.
-pub fn settle(words: &mut [u64], o: Obj) -> u64
-    requires { T (sound_words words.old) × (o.num < object_count) }
-    ensures { (result ≡ settle_count (unpack words.old) (obj_of o))
-        × (words.new ≡ pack (settled_at (unpack words.old) (obj_of o))) }
+pub fn settle(words: &mut [u64], o: Object) -> u64
+    requires { T (sound_words words.old) }
+    ensures { (result ≡ settle_count (unpack words.old) (object_of o))
+        × (words.new ≡ pack (settled_at (unpack words.old) (object_of o))) }
 {
     let k = objects::settle_number(words, o);
     if k == 0 {
         return 0;
     }
-    let last = objects::writer_at(words, o, k as usize - 1);
-    let n = lookups::log_number(words, last);
+    let last = lookups::writer_at(words, o, k as usize - 1);
+    let n = lookups::log_number(&Tables { words }, last);
     objects::settle_object(words, o, k as usize, n);
     k
 }
 
 // ---- restart
 
-// 1 for a place that is used, and 0 for a free one.
-fn used(words: &[u64], p: usize) -> u64
-    requires { (length words.now ≡ word_count) × (p < place_count) }
-    ensures { result ≡ cond (not (eqb (word words.now (number_at + p)) 0)) 1 0 }
-{
-    if words[layout::NUMBER + p] == 0 { 0 } else { 1 }
-}
-
 // How many places are used.
 fn count_used(words: &[u64]) -> u64
     requires { length words.now ≡ word_count }
     ensures { result ≡ used_count words.now }
 {
-    let mut n = 0;
-    for p in 0..32 {
-        n += used(words, p);
-    }
-    n
+    words[layout::NUMBER..layout::ACCESSED]
+        .iter()
+        .filter(|n| **n != 0)
+        .count() as u64
 }
 
 // Settles every object.
@@ -229,26 +227,7 @@ fn settle_all(words: &mut [u64])
     ensures { words.new ≡ pack (settle_first object_count (unpack words.old)) }
 {
     for i in 0..32 {
-        settle(words, Obj { num: i });
-    }
-}
-
-// Leaves every object its stable version alone.
-fn wipe_objects(words: &mut [u64])
-    requires { length words.old ≡ word_count }
-    ensures { words.new ≡ loop object_count wiped words.old }
-{
-    for i in 0..32 {
-        objects::keep_saved(words, Obj { num: i }, 0);
-    }
-}
-
-fn free_all(words: &mut [u64])
-    requires { length words.old ≡ word_count }
-    ensures { words.new ≡ loop place_count free_words words.old }
-{
-    for p in 0..32 {
-        free_place(words, p);
+        settle(words, Object { num: i });
     }
 }
 
@@ -260,7 +239,8 @@ pub fn restart(words: &mut [u64]) -> u64
 {
     let used = count_used(words);
     settle_all(words);
-    wipe_objects(words);
-    free_all(words);
+    // Every object keeps its stable version alone.
+    each_object(words, |ws, o| objects::keep_saved(ws, o, 0));
+    each_place(words, |ws, p| free_place(ws, p));
     used
 }

@@ -21,7 +21,7 @@ use Rattle.ends_laws.specs.Objects.{itself, another}
 use Rattle.ends_laws.specs.Places.{with_places, with_log, free_words, free_packs, depends_packs, add_record, record_packs}
 
 -- place p struck from the dependencies of place q
-unfoldable pub strike : ℕ → ℕ → List ℕ → List ℕ
+abbrev pub strike : ℕ → ℕ → List ℕ → List ℕ
 strike p q ws = set ws (depends_at + q) (without_member (word ws (depends_at + q)) p)
 
 unfoldable pub commit_words : ℕ → ℕ → List ℕ → List ℕ
@@ -34,7 +34,7 @@ logged t x = with_log t (t.log ++ txn x ∷ [])
 -- a place whose turn has not come has its dependencies still
 pub strike_later : (p : ℕ) (ws : List ℕ) (q r : ℕ) → q ≤ r
     → word (loop q (strike p) ws) (depends_at + r) ≡ word ws (depends_at + r)
-unfolding loop strike
+unfolding loop
 strike_later p ws zero r h = refl
 strike_later p ws (suc q) r h =
     let vs = loop q (strike p) ws in
@@ -46,7 +46,6 @@ module _ (t : Tables) (s : Sound t) (x : ℕ) (room : length t.log < log_room) (
       → place ls q ≡ place t.live q
       → strike p q (pack (with_places (logged t x) ls))
       ≡ pack (with_places (logged t x) (set ls q (struck p (place t.live q))))
-  unfolding strike
   place_struck q ls m n e =
       let h : q < place_count = omega (arith, s.places_count) in
       let u = with_places (logged t x) ls in

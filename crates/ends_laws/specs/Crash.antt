@@ -12,7 +12,7 @@ use Rattle.ends_laws.specs.Loops.{loop, loop_row, loop_turns, turns, turns_after
 use Rattle.ends_laws.specs.Cuts.{keep_saved, with_objects, object_again, keep_saved_packs}
 
 -- object i with its lock free and its saved entries alone, if it is one of the set
-unfoldable pub crash_object : ℕ → ℕ → List ℕ → List ℕ
+abbrev pub crash_object : ℕ → ℕ → List ℕ → List ℕ
 crash_object c i ws = cond (has c i) (keep_saved i (word ws (saved_count_at + i)) ws) ws
 
 unfoldable pub crash_words : ℕ → List ℕ → List ℕ
@@ -25,7 +25,6 @@ module _ (t : Tables) (s : Sound t) (c : ℕ) where
   object_crashed : (i : ℕ) (bs : List Object) → i < length t.objects → length bs ≡ length t.objects
       → get_or bs i fresh_object ≡ object t (obj i)
       → crash_object c i (pack (with_objects t bs)) ≡ pack (with_objects t (set bs i (now i (object t (obj i)))))
-  unfolding crash_object
   object_crashed i bs m n e = go (has c i)
     where
       u : Tables

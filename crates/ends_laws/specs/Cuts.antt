@@ -14,11 +14,11 @@ use Rattle.ends_laws.specs.Objects.{object_there, unlock, unlock_packs}
 use Rattle.ends_laws.specs.Entries.{trim, trim_packs}
 
 -- object i with its lock free and its first n entries alone, as saved ones
-unfoldable pub keep_saved : ℕ → ℕ → List ℕ → List ℕ
+abbrev pub keep_saved : ℕ → ℕ → List ℕ → List ℕ
 keep_saved i n ws = trim i n 0 (unlock i ws)
 
 -- object i with the first n entries of its chain alone, each saved or queued as it was
-unfoldable pub cut_chain : ℕ → ℕ → List ℕ → List ℕ
+abbrev pub cut_chain : ℕ → ℕ → List ℕ → List ℕ
 cut_chain i n ws =
     let s = min (word ws (saved_count_at + i)) n in
     trim i s (min (word ws (queued_count_at + i)) (n - s)) ws
@@ -28,7 +28,6 @@ pub cut_leaves : (i n : ℕ) (ws : List ℕ) {s q : ℕ} {vs : List ℕ} → s �
     → q ≡ min (word ws (queued_count_at + i)) (n - s)
     → vs ≡ trim i s q ws
     → vs ≡ cut_chain i n ws
-unfolding cut_chain
 cut_leaves i n ws {s} {q} {vs} saved queued e =
     e
     ∙ ap₂ (λ (a b : ℕ). trim i a b ws) saved
@@ -45,7 +44,6 @@ object_again u i = ap (λ (bs : List Object). pack (with_objects u bs)) (sym (se
 module _ (u : Tables) (size : length u.objects ≡ object_count) (i : ℕ) (h : i < object_count) where
   pub keep_saved_packs : (b : Object) → object u (obj i) ≡ b → (s rest : List Entry) → chain b ≡ s ++ rest
       → keep_saved i (length s) (pack u) ≡ pack (with_object u (obj i) (chained (unlocked b) s []))
-  unfolding keep_saved
   keep_saved_packs b there s rest parts =
       let w = with_object u (obj i) (unlocked (object u (obj i))) in
       let now = object_there u size i h (unlocked (object u (obj i))) ∙ ap unlocked there in
@@ -60,7 +58,6 @@ module _ (u : Tables) (size : length u.objects ≡ object_count) (i : ℕ) (h : 
       → length s ≡ min (length (object u (obj i)).saved) n
       → length q ≡ min (length (object u (obj i)).queued) (n - min (length (object u (obj i)).saved) n)
       → cut_chain i n (pack u) ≡ pack (with_object u (obj i) (chained (object u (obj i)) s q))
-  unfolding cut_chain
   cut_packs n s q rest parts saved queued =
       ap₂ (λ (c d : ℕ). trim i (min c n) (min d (n - min c n)) (pack u)) ((pack_says u).column saved_count i h)
       ((pack_says u).column queued_count i h)

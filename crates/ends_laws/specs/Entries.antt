@@ -188,13 +188,12 @@ module _ (n j : ℕ) where
 -- ---- a chain cut to its first entries
 
 -- object i with so many saved and queued entries, and zero behind them
-unfoldable pub trim : ℕ → ℕ → ℕ → List ℕ → List ℕ
+abbrev pub trim : ℕ → ℕ → ℕ → List ℕ → List ℕ
 trim i s q ws = clear i (s + q) (set (set ws (saved_count_at + i) s) (queued_count_at + i) q)
 
 module _ (u : Tables) (n : length u.objects ≡ object_count) (i : ℕ) (h : i < object_count) (s q rest : List Entry)
     (parts : chain (object u (obj i)) ≡ (s ++ q) ++ rest) where
   pub trim_packs : trim i (length s) (length q) (pack u) ≡ pack (with_object u (obj i) (chained (object u (obj i)) s q))
-  unfolding trim
   trim_packs =
       let one = set (pack u) (saved_count_at + i) (length s) in
       let two = set one (queued_count_at + i) (length q) in

@@ -1,11 +1,14 @@
 -- Words that are zero but for the next number, which is 1, are fresh tables.
 -- Rests on the rules' Layout, on words_laws. Assumes nothing.
-use Rattle.std.specs.Prelude.{◌≡◌, refl, List, ℕ, zero, suc, ◌+◌, ◌*◌, ◌<◌, length, get_or, set, replicate}
+use Rattle.std.specs.Prelude.{◌≡◌, refl, List, ℕ, zero, suc, ◌+◌, ◌-◌, ◌*◌, ◌<◌, ◌≤◌, ◌++◌, length, get_or, set, replicate, take}
 use Rattle.std.proofs.Common.{ap, sym, ◌∙◌, ⊎_elim, arith, length-set, get_or-set_same, get_or-set_other}
+use Rattle.std.proofs.Math.ListN.{get_or-append}
+use Rattle.std.proofs.lemmas.List.{length-replicate, length-take, get_or-take, get_or-append_right}
 use Rattle.rules.specs.Tables.{Object, Live, obj, object_count, place_count, chain_room, fresh_object, free_place, fresh, object, place, chain}
 use Rattle.rules.specs.Layout.{word_count, no_entry, pack, word}
 use Rattle.basics.specs.Ranges.{below_suc}
 use Rattle.words_laws.specs.Says.{Column, number, accessed, written, prepared, depends, stable_value, stable_writer, stable_number, holder, working, saved_count, queued_count, start, cell, says_packed}
+use Rattle.ends_laws.specs.Loops.{reaches}
 
 -- the first of n words is 1, and zero the others
 abbrev pub OneFirst : List ℕ → ℕ → Type 0
@@ -37,6 +40,30 @@ pub get_or_replicate : {A : Type 0} (n : ℕ) (a : A) (i : ℕ) → get_or (repl
 get_or_replicate zero a i = refl
 get_or_replicate (suc n) a zero = refl
 get_or_replicate (suc n) a (suc i) = get_or_replicate n a i
+
+-- zeros written behind the words so far
+pub one_first_zeros : (ws ys rest : List ℕ) (a k m : ℕ) → ys ≡ replicate k 0 → m ≡ a + k → 0 < a → a ≤ length ws → OneFirst ws a
+    → OneFirst (take a ws ++ (ys ++ rest)) m
+one_first_zeros ws ys rest a k m zeros all some within o = (
+  before 0 some ∙ o.0,
+  λ j l below.
+      ⊎_elim
+      (λ g. ap (λ (zs : List ℕ). word (take a ws ++ (zs ++ rest)) j) zeros ∙ here j g (omega arith))
+      (λ g. before j g ∙ o.1 j l g)
+      (reaches j a),
+)
+  where
+    front : length (take a ws) ≡ a
+    front = omega (arith, length-take a ws)
+
+    before : (j : ℕ) → j < a → word (take a ws ++ (ys ++ rest)) j ≡ word ws j
+    before j h = get_or-append (take a ws) (ys ++ rest) 0 j (omega (arith, front)) ∙ get_or-take a ws j 0 h
+
+    here : (j : ℕ) → a ≤ j → j < a + k → word (take a ws ++ (replicate k 0 ++ rest)) j ≡ 0
+    here j g h =
+        get_or-append_right (take a ws) (replicate k 0 ++ rest) a j 0 front g
+        ∙ get_or-append (replicate k 0) rest 0 (j - a) (omega (arith, length-replicate {A = ℕ} k 0))
+        ∙ get_or_replicate k 0 (j - a)
 
 fresh_place : (p : ℕ) → place fresh.live p ≡ free_place
 unfolding fresh

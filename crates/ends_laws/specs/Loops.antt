@@ -38,6 +38,23 @@ unfoldable pub loop : ℕ → (ℕ → List ℕ → List ℕ) → List ℕ → L
 loop zero f ws = ws
 loop (suc n) f ws = f n (loop n f ws)
 
+-- the words after so many turns, which a record says so that its laws are found at it
+pub record Turned (f : ℕ → List ℕ → List ℕ) (ws vs : List ℕ) (i : ℕ) : Type 0 where
+  pub left : vs ≡ loop i f ws
+
+module _ {f : ℕ → List ℕ → List ℕ} {ws : List ℕ} where
+  pub turned_none : Turned f ws ws 0
+  unfolding loop
+  turned_none = record { left = refl }
+
+  -- one turn more, as the code counts
+  pub turned_more : {vs us : List ℕ} {i : ℕ} → Turned f ws vs i → us ≡ f i vs → Turned f ws us (i + 1)
+  unfolding loop
+  turned_more {vs} {us} {i} t r = record { left = r ∙ ap (f i) t.left ∙ ap (λ (k : ℕ). loop k f ws) (sym (add-one i)) }
+
+  pub turned_all : {vs : List ℕ} {i n : ℕ} → Turned f ws vs i → i ≡ n → vs ≡ loop n f ws
+  turned_all t e = t.left ∙ ap (λ (k : ℕ). loop k f ws) e
+
 -- of n turns i are over: the words are those that they leave, and as many as ever
 pub record Turning (n : ℕ) (f : ℕ → List ℕ → List ℕ) (ws vs : List ℕ) (i : ℕ) : Type 0 where
   pub at_most : i ≤ n
@@ -46,22 +63,15 @@ pub record Turning (n : ℕ) (f : ℕ → List ℕ → List ℕ) (ws vs : List �
 
 module _ {n : ℕ} {f : ℕ → List ℕ → List ℕ} {ws : List ℕ} where
   pub turning_none : length ws ≡ word_count → Turning n f ws ws 0
-  unfolding loop
-  turning_none e = record { at_most = omega arith; size = e; left = refl }
+  turning_none e = record { at_most = omega arith; size = e; left = turned_none.left }
 
-  -- one turn more, as the code counts
   pub turning_more : {vs us : List ℕ} {i : ℕ} → Turning n f ws vs i → i < n → length us ≡ length vs → us ≡ f i vs
       → Turning n f ws us (i + 1)
-  unfolding loop
-  turning_more {vs} {us} {i} t h e r =
-      record {
-        at_most = omega arith;
-        size = e ∙ t.size;
-        left = r ∙ ap (f i) t.left ∙ ap (λ (k : ℕ). loop k f ws) (sym (add-one i));
-      }
+  turning_more t h e r =
+      record { at_most = omega arith; size = e ∙ t.size; left = (turned_more (record { left = t.left }) r).left }
 
   pub turning_all : {vs : List ℕ} {i : ℕ} → Turning n f ws vs i → n ≤ i → vs ≡ loop n f ws
-  turning_all {vs} {i} t h = t.left ∙ ap (λ (k : ℕ). loop k f ws) (omega arith)
+  turning_all {vs} {i} t h = turned_all (record { left = t.left }) (omega arith)
 
 -- ---- a list of which each turn sets one element
 

@@ -95,14 +95,13 @@ module _ (u : Tables) (n : length u.live ≡ place_count) (p : ℕ) (h : p < pla
 
 -- ---- a place freed
 
-unfoldable pub free_words : ℕ → List ℕ → List ℕ
+abbrev pub free_words : ℕ → List ℕ → List ℕ
 free_words p ws =
     set (set (set (set (set ws (number_at + p) 0) (accessed_at + p) 0) (written_at + p) 0) (prepared_at + p) 0)
     (depends_at + p) 0
 
 pub free_packs : (u : Tables) → length u.live ≡ place_count → (p : ℕ) → p < place_count
     → free_words p (pack u) ≡ pack (with_place u p free_place)
-unfolding free_words
 free_packs u n p h = place_packed u n p h free_place ws5 v5.column s5 (λ c k d. simp (another k p d, and-false)) here
   where
     v1 : View
@@ -193,12 +192,11 @@ depends_packs u n p h s =
 abbrev pub with_log : Tables → List Txn → Tables
 with_log u rs = record { next = u.next; log = rs; live = u.live; objects = u.objects }
 
-unfoldable pub add_record : ℕ → List ℕ → List ℕ
+abbrev pub add_record : ℕ → List ℕ → List ℕ
 add_record x ws = set (set ws (log_at + word ws log_count_at) x) log_count_at (word ws log_count_at + 1)
 
 pub record_packs : (u : Tables) (x : ℕ) → length u.log < log_room
     → add_record x (pack u) ≡ pack (with_log u (u.log ++ txn x ∷ []))
-unfolding add_record
 record_packs u x h =
     let n = length u.log in
     ap (λ (m : ℕ). set (set (pack u) (log_at + m) x) log_count_at (m + 1)) (pack_says u).log_count

@@ -1,22 +1,25 @@
 -- The words that restart writes are what the rules' restart packs to: every object settled, then cut to its stable
 -- version, and all places free.
 -- Rests on the rules' Layout and Steps, on basics, words_laws, sound_laws, and on Loops to Settle. Assumes nothing.
-use Rattle.std.specs.Prelude.{◌≡◌, not, cond, T, eqb, length, get_or, set}
+use Rattle.std.specs.Prelude.{◌≡◌, Bool, false, not, cond, T, ◌==◌, eqb, length, get_or, set, take, drop, count_by, slice_range}
 use Rattle.std.proofs.Math.Path.{refl, ap, sym}
-use Rattle.std.proofs.Common.{ap₂, ◌∙◌, le_refl, add-one, arith}
+use Rattle.std.proofs.Common.{ap₂, ◌∙◌, ⊎_elim, le_refl, add-one, arith}
 use mathlib.Core.List.{List, [], ◌++◌, map, append-nil}
 use Prim.Native.Nat.{ℕ, zero, suc, ◌+◌, ◌<◌, ◌≤◌}
+use Rattle.std.proofs.lemmas.List.{get_or-drop, get_or_past, take_all}
+use Rattle.std.proofs.lemmas.List.Sums.{length-filter}
+use Rattle.std.proofs.lemmas.List.Filters.{length-filter_more}
 use Rattle.rules.specs.Tests.{row, count, keep, leading, after_leading, last_or}
 use Rattle.rules.specs.Tables.{Entry, Object, Live, Tables, obj, object_count, place_count, fresh_object, free_place, object, place, chain, is_free}
 use Rattle.rules.specs.Steps.{version_of, entry_logged, unlocked, chained, settled, settle, durable, restart, live_count}
-use Rattle.rules.specs.Layout.{number_at, pack, word, sound_words}
+use Rattle.rules.specs.Layout.{number_at, accessed_at, pack, word, sound_words}
 use Rattle.basics.specs.Ranges.{length_row, getD_row, row_same, count_same}
 use Rattle.basics.specs.Lists.{Neighbours-front, leading_split, after_leading_none, keep_pass}
 use Rattle.words_laws.specs.Says.{number, pack_says}
 use Rattle.words_laws.specs.Words.{packed_sound}
 use Rattle.sound_laws.specs.Means.{LoggedFirst, Sound, tests}
 use Rattle.sound_laws.specs.Storage.{settle_sound}
-use Rattle.ends_laws.specs.Loops.{loop, loop_row, turns, turns_after, turns_row}
+use Rattle.ends_laws.specs.Loops.{reaches, loop, loop_row, turns, turns_after, turns_row}
 use Rattle.ends_laws.specs.Fronts.{keep_leading}
 use Rattle.ends_laws.specs.Places.{with_places, free_words, free_packs}
 use Rattle.ends_laws.specs.Cuts.{keep_saved, with_objects, keep_saved_packs}
@@ -34,8 +37,9 @@ wipe i = keep_saved i 0
 abbrev pub used_below : List ℕ → ℕ → ℕ
 used_below ws n = count n (λ p. not (eqb (word ws (number_at + p)) 0))
 
-unfoldable pub used_count : List ℕ → ℕ
-used_count ws = used_below ws place_count
+-- how many places are used
+abbrev pub used_count : List ℕ → ℕ
+used_count ws = count_by (λ n. not (n == 0)) (slice_range ws number_at accessed_at)
 
 -- one place more, as the code counts
 pub used_more : (ws : List ℕ) (p n r : ℕ) → n ≡ used_below ws p → r ≡ cond (not (eqb (word ws (number_at + p)) 0)) 1 0
@@ -47,10 +51,39 @@ used_more ws p n r e f = ap₂ ◌+◌ e f ∙ ap (used_below ws) (sym (add-one 
 unfoldable pub wipe_words : List ℕ → List ℕ
 wipe_words ws = loop place_count free_words (loop object_count wipe ws)
 
+-- to count the first elements that pass is to count their places: those past the end are 0, which does not pass
+counted : (p : ℕ → Bool) → p 0 ≡ false → (xs : List ℕ) (n : ℕ) → count_by p (take n xs) ≡ count n (λ i. p (get_or xs i 0))
+unfolding count
+counted p e xs zero = refl
+counted p e xs (suc n) =
+    ⊎_elim past here (reaches n (length xs)) ∙ ap (λ (k : ℕ). k + cond (p (get_or xs n 0)) 1 0) (counted p e xs n)
+  where
+    past : length xs ≤ n → count_by p (take (suc n) xs) ≡ count_by p (take n xs) + cond (p (get_or xs n 0)) 1 0
+    past h =
+        let none = ap {B = ℕ} (λ (b : Bool). cond b 1 0) (ap p (get_or_past xs n 0 h) ∙ e) in
+        let same = ap (count_by p) (take_all (suc n) xs (omega arith) ∙ sym (take_all n xs h)) in
+        omega (arith, same, none)
+
+    here : n < length xs → count_by p (take (suc n) xs) ≡ count_by p (take n xs) + cond (p (get_or xs n 0)) 1 0
+    here h =
+        ap (λ (k : ℕ). count_by p (take k xs)) (sym (add-one n))
+        ∙ sym (length-filter p (take (n + 1) xs))
+        ∙ length-filter_more p xs n 0 h
+        ∙ ap (λ (k : ℕ). k + cond (p (get_or xs n 0)) 1 0) (length-filter p (take n xs))
+
+-- all places are the first 32
+pub used_all : (ws : List ℕ) → used_count ws ≡ used_below ws place_count
+used_all ws =
+    let is_used : ℕ → Bool = λ n. not (n == 0) in
+    counted is_used refl (drop number_at ws) place_count
+    ∙ count_same place_count (λ p. is_used (get_or (drop number_at ws) p 0)) (λ p. is_used (word ws (number_at + p)))
+    (λ p h. ap is_used (get_or-drop number_at ws p 0))
+
 pub used_packed : (t : Tables) → used_count (pack t) ≡ live_count t
-unfolding used_count live_count
+unfolding live_count
 used_packed t =
-    count_same place_count (λ p. not (eqb (word (pack t) (number_at + p)) 0)) (λ p. not (is_free (place t.live p)))
+    used_all (pack t)
+    ∙ count_same place_count (λ p. not (eqb (word (pack t) (number_at + p)) 0)) (λ p. not (is_free (place t.live p)))
     (λ p h. ap (λ (n : ℕ). not (eqb n 0)) ((pack_says t).column number p h))
 
 module _ (t : Tables) (s : Sound t) where

@@ -24,11 +24,11 @@ unfoldable pub seat : List ℕ → ℕ → ℕ
 seat ws x = lowest place_count (λ p. eqb (word ws (number_at + p)) x)
 
 -- the place with the number x is one of f
-unfoldable pub sits_in : List ℕ → ℕ → ℕ → Bool
+abbrev pub sits_in : List ℕ → ℕ → ℕ → Bool
 sits_in ws f x = ltb (seat ws x) place_count && has f (seat ws x)
 
 -- the transaction x is one of those at the places f
-unfoldable pub falls_in : List ℕ → ℕ → ℕ → Bool
+abbrev pub falls_in : List ℕ → ℕ → ℕ → Bool
 falls_in ws f x = not (eqb x 0) && sits_in ws f x
 
 -- the first entry of object i's chain whose writer is one of those at the places f
@@ -38,21 +38,17 @@ first_fall ws f i = lowest chain_room (λ j. falls_in ws f (word ws (writer_plac
 -- who falls: nobody does not, anybody else does whose place is one of f
 module _ (ws : List ℕ) (f x : ℕ) where
   pub falls_nobody : x ≡ 0 → false ≡ falls_in ws f x
-  unfolding falls_in
   falls_nobody e = rw (eq-eqb x 0 e)
 
   pub falls_somebody : (x ≡ 0 → ⊥) → (b : Bool) → b ≡ sits_in ws f x → b ≡ falls_in ws f x
-  unfolding falls_in
   falls_somebody d b e = e ∙ sym (rw (ne_eqb x 0 d))
 
   -- by a search for the place, which may be nowhere
   module _ (p : ℕ) (there : p ≡ seat ws x) where
     pub sits_there : p < place_count → (b : Bool) → b ≡ has f p → b ≡ sits_in ws f x
-    unfolding sits_in
     sits_there h b e = e ∙ sym (rw (← there, lt-ltb p place_count h))
 
     pub sits_nowhere : place_count ≤ p → false ≡ sits_in ws f x
-    unfolding sits_in
     sits_nowhere h = rw (← there, le-ltb p place_count h)
 
 module _ (u : Tables) where
@@ -63,7 +59,7 @@ module _ (u : Tables) where
       (λ p h. ap (λ (n : ℕ). eqb n x) ((pack_says u).column number p h))
 
   pub falls_packed : (f x : ℕ) → falls_in (pack u) f x ≡ falls u.live f (txn x)
-  unfolding falls_in sits_in falls is_live
+  unfolding falls is_live
   falls_packed f x =
       ap (λ (p : ℕ). not (eqb x 0) && (ltb p place_count && has f p)) (seat_packed x)
       ∙ sym (and_assoc (not (eqb x 0)) (ltb (place_of u.live (txn x)) place_count) (has f (place_of u.live (txn x))))

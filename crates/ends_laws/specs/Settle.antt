@@ -35,29 +35,26 @@ abbrev pub all_places : ℕ
 all_places = 4_294_967_295
 
 -- how many of object o's entries leave: the saved ones before the first whose writer is live
-unfoldable pub settle_number : List ℕ → ℕ → ℕ
+abbrev pub settle_number : List ℕ → ℕ → ℕ
 settle_number ws o = min (word ws (saved_count_at + o)) (first_fall ws all_places o)
 
 -- no more than a chain holds, or than are saved
 pub settle_number_most : (ws : List ℕ) (o : ℕ)
     → (settle_number ws o ≤ chain_room) × (settle_number ws o ≤ word ws (saved_count_at + o))
-unfolding settle_number first_fall
+unfolding first_fall
 settle_number_most ws o =
     let most = (lowest_is chain_room (λ j. falls_in ws all_places (word ws (writer_place o j)))).at_most in
     (omega arith, omega arith)
 
--- object o with a value x of the writer y as its stable version, under the log number n, and with k saved entries fewer
-abbrev pub put_version : ℕ → ℕ → ℕ → ℕ → ℕ → List ℕ → List ℕ
-put_version o k x y n ws =
-    set (set (set (set ws (stable_value_at + o) x) (stable_writer_at + o) y) (stable_number_at + o) n) (saved_count_at + o)
-    (word ws (saved_count_at + o) - k)
-
--- the same with entry k - 1
-unfoldable pub put_stable : ℕ → ℕ → ℕ → List ℕ → List ℕ
-put_stable o k n ws = put_version o k (word ws (value_place o (k - 1))) (word ws (writer_place o (k - 1))) n ws
+-- object o with entry k - 1 as its stable version, under the log number n, and with k saved entries fewer
+abbrev pub put_stable : ℕ → ℕ → ℕ → List ℕ → List ℕ
+put_stable o k n ws =
+    let stable = set (set ws (stable_value_at + o) (word ws (value_place o (k - 1)))) (stable_writer_at + o)
+    (word ws (writer_place o (k - 1))) in
+    set (set stable (stable_number_at + o) n) (saved_count_at + o) (word ws (saved_count_at + o) - k)
 
 -- and without its first k entries
-unfoldable pub settle_object : ℕ → ℕ → ℕ → List ℕ → List ℕ
+abbrev pub settle_object : ℕ → ℕ → ℕ → List ℕ → List ℕ
 settle_object o k n ws = clear o (chain_room - k) (slide o k (put_stable o k n ws))
 
 -- ---- which entries leave
@@ -103,7 +100,7 @@ module _ (t : Tables) (s : Sound t) (o : ℕ) (h : o < object_count) where
       (u, all_there (place_of t.live x) (live_at t.live x u).below)
 
   pub settle_number_packed : settle_number (pack t) o ≡ settle_count t (obj o)
-  unfolding settle_number settle_count
+  unfolding settle_count
   settle_number_packed =
       ap₂ min ((pack_says t).column saved_count o h) (first_fall_packed t all_places o h)
       ∙ sym (kept_parts logged no_entry b.saved b.queued ok_first chain_room k
@@ -170,7 +167,7 @@ module _ (t : Tables) (s : Sound t) (o : ℕ) (h : o < object_count) where
       → settle_object o (settle_count t (obj o))
       (log_number t.log (txn (word (pack t) (writer_place o (settle_count t (obj o) - 1))))).num (pack t)
       ≡ pack (settle t (obj o))
-  unfolding settle_object put_stable settle_count settle settled
+  unfolding settle_count settle settled
   settle_some g =
       object_packed t s.objects_count o h new (clear o (chain_room - k) (slide o k ws4))
       (put_entries o (λ m. (chain_room - k) + m) (λ j. 0) (λ j. 0) (chain_room - (chain_room - k)) v5)

@@ -28,25 +28,23 @@ use Rattle.ends_laws.specs.Scans.{falls_in, first_fall, falls_packed, first_fall
 use Rattle.ends_laws.specs.Cuts.{cut_chain, with_objects, object_again, cut_packs}
 
 -- object i's lock free if one of those at the places f holds it
-unfoldable pub unlock_fallen : ℕ → ℕ → List ℕ → List ℕ
+abbrev pub unlock_fallen : ℕ → ℕ → List ℕ → List ℕ
 unlock_fallen f i ws = cond (falls_in ws f (word ws (holder_at + i))) (unlock i ws) ws
 
 -- by whether the holder falls
 module _ (f i : ℕ) (ws : List ℕ) (x : ℕ) (there : x ≡ word ws (holder_at + i)) where
   pub lock_freed : true ≡ falls_in ws f x → {vs : List ℕ} → vs ≡ unlock i ws → vs ≡ unlock_fallen f i ws
-  unfolding unlock_fallen
   lock_freed t e = e ∙ sym (rw (← there, ← t))
 
   pub lock_kept : false ≡ falls_in ws f x → ws ≡ unlock_fallen f i ws
-  unfolding unlock_fallen
   lock_kept t = sym (rw (← there, ← t))
 
 -- object i's chain is empty
-unfoldable pub no_entries : List ℕ → ℕ → Bool
+abbrev pub no_entries : List ℕ → ℕ → Bool
 no_entries ws i = eqb (word ws (saved_count_at + i)) 0 && eqb (word ws (queued_count_at + i)) 0
 
 -- object i's chain up to the first of those at the places f; nothing is written where none of them is in it
-unfoldable pub undo_chain : ℕ → ℕ → List ℕ → List ℕ
+abbrev pub undo_chain : ℕ → ℕ → List ℕ → List ℕ
 undo_chain f i ws =
     let k = first_fall ws f i in
     cond (no_entries ws i) ws (cond (ltb k chain_room) (cut_chain i k ws) ws)
@@ -54,24 +52,21 @@ undo_chain f i ws =
 -- the three ways to leave a chain: it is empty, its first that falls is entry k, or none falls
 module _ (f i : ℕ) (ws : List ℕ) where
   pub chain_empty : true ≡ no_entries ws i → ws ≡ undo_chain f i ws
-  unfolding undo_chain
   chain_empty e = rw (← e)
 
   module _ (some : false ≡ no_entries ws i) (k : ℕ) (first : k ≡ first_fall ws f i) where
     pub chain_cut : k < chain_room → {vs : List ℕ} → vs ≡ cut_chain i k ws → vs ≡ undo_chain f i ws
-    unfolding undo_chain
     chain_cut h e = e ∙ sym (rw (← some, ← first, lt-ltb k chain_room h))
 
     pub chain_whole : chain_room ≤ k → ws ≡ undo_chain f i ws
-    unfolding undo_chain
     chain_whole h = sym (rw (← some, ← first, le-ltb k chain_room h))
 
 -- object i without those at the places f
-unfoldable pub undo_object : ℕ → ℕ → List ℕ → List ℕ
+abbrev pub undo_object : ℕ → ℕ → List ℕ → List ℕ
 undo_object f i ws = unlock_fallen f i (undo_chain f i ws)
 
 -- place p, free if it is one of the places f
-unfoldable pub undo_place : ℕ → ℕ → List ℕ → List ℕ
+abbrev pub undo_place : ℕ → ℕ → List ℕ → List ℕ
 undo_place f p ws = cond (has f p) (free_words p ws) ws
 
 unfoldable pub undo_words : ℕ → List ℕ → List ℕ
@@ -85,7 +80,6 @@ lock_undone ls f b = cond (falls ls f b.holder) (unlocked b) b
 
 lock_packs : (u : Tables) → length u.objects ≡ object_count → (f i : ℕ) → i < object_count
     → unlock_fallen f i (pack u) ≡ pack (with_object u (obj i) (lock_undone u.live f (object u (obj i))))
-unfolding unlock_fallen
 lock_packs u size f i h =
     let b = object u (obj i) in
     ap (λ (free : Bool). cond free (unlock i (pack u)) (pack u))
@@ -110,7 +104,6 @@ module _ (u : Tables) (size : length u.objects ≡ object_count) (f i : ℕ) (h 
 
   module _ (first : PassFirst stays (chain b)) (fits : length (chain b) ≤ chain_room) where
     chain_packs : undo_chain f i (pack u) ≡ pack (with_object u (obj i) chain_left)
-    unfolding undo_chain no_entries
     chain_packs =
         ap (λ (n : ℕ). cond (no_entries ws i) ws (cond (ltb n chain_room) (cut_chain i n ws) ws))
         (first_fall_packed u f i h)
@@ -174,7 +167,7 @@ module _ (u : Tables) (size : length u.objects ≡ object_count) (f i : ℕ) (h 
         go false e false d = d (λ t. t)
 
     object_packs : undo_object f i (pack u) ≡ pack (with_object u (obj i) (undone u.live f b))
-    unfolding undo_object undone
+    unfolding undone
     object_packs =
         let w = with_object u (obj i) chain_left in
         ap (unlock_fallen f i) chain_packs
@@ -209,7 +202,6 @@ module _ (t : Tables) (s : Sound t) (f : ℕ) (closed : Closed t.live f) where
       → place ls p ≡ place t.live p
       → undo_place f p (pack (with_places u ls))
       ≡ pack (with_places u (set ls p (cond (has f p) free_place (place t.live p))))
-  unfolding undo_place
   place_undone u p ls m n e = go (has f p)
     where
       go : (b : Bool) → cond b (free_words p (pack (with_places u ls))) (pack (with_places u ls))

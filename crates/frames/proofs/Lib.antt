@@ -1,3 +1,2 @@
 pub mod Stretches
-pub mod Rooms
 pub mod Lines

@@ -18,7 +18,7 @@ use Rattle.rules.specs.Frames.{line_feed, frame_length, is_digit, digit_value, n
 use Rattle.basics.specs.Logic.{and_says, passes_or_fails, is_true, cond_true, cond_false}
 use Rattle.frames_laws.specs.Stretches.{passed, all_append, all_stretch}
 use Rattle.frames_laws.specs.Digits.{number_bound}
-use Rattle.frames.specs.Parts.{no_digit, value_of, field, sum_after, sum_in, asked}
+use Rattle.frames.specs.Parts.{no_digit, value_of, sum_after, sum_in, asked}
 use Rattle.frames.specs.Shape.{frame_shape}
 
 -- ---- what the bytes of a stretch stand for together
@@ -75,7 +75,7 @@ number_shifted a (b ∷ l) =
 
 -- sixteen digits are eight and eight
 halves : (l : List ℕ) → frame_length ≤ length l
-    → number_in (field 12 20 l) * no_digit + number_in (field 20 28 l) ≡ number_in (take 16 (drop 12 l))
+    → number_in (take 8 (drop 12 l)) * no_digit + number_in (take 8 (drop 20 l)) ≡ number_in (take 16 (drop 12 l))
 halves l h =
     let long : length (take 8 (drop 20 l)) ≡ 8 = length-take-le 8 (drop 20 l) (rw length-drop (omega arith)) in
     let parted : take 16 (drop 12 l) ≡ take 8 (drop 12 l) ++ take 8 (drop 20 l) = take-add 8 8 (drop 12 l) ∙ rw (drop-drop 8 12 l) in
@@ -96,11 +96,11 @@ wrong_end l f = refused l (λ t. f (frame_shape l t).ended)
 
 -- the numbers of a line's fields, the value's digits in two halves
 pub record Numbers (l : List ℕ) (k x o h v : ℕ) : Type 0 where
-  pub kind : k ≡ sum_in (field 0 2 l)
-  pub who : x ≡ sum_in (field 2 10 l)
-  pub what : o ≡ sum_in (field 10 12 l)
-  pub high : h ≡ sum_in (field 12 20 l)
-  pub low : v ≡ sum_in (field 20 28 l)
+  pub kind : k ≡ sum_in (take 2 l)
+  pub who : x ≡ sum_in (take 8 (drop 2 l))
+  pub what : o ≡ sum_in (take 2 (drop 10 l))
+  pub high : h ≡ sum_in (take 8 (drop 12 l))
+  pub low : v ≡ sum_in (take 8 (drop 20 l))
 
 -- none is too large
 abbrev pub all_small : ℕ → ℕ → ℕ → ℕ → ℕ → Bool
@@ -135,11 +135,11 @@ module _ (l : List ℕ) (k x o h v : ℕ) (n : Numbers l k x o h v) where
     unfolding read_frame is_frame call_in
     read_fields ended =
         let ((((sk, sx), so), sh), sv) = simp passed at small in
-        let (hk, ik) = all_digits (field 0 2 l) (rw (← n.kind) sk) in
-        let (hx, ix) = all_digits (field 2 10 l) (rw (← n.who) sx) in
-        let (ho, io) = all_digits (field 10 12 l) (rw (← n.what) so) in
-        let (hh, ih) = all_digits (field 12 20 l) (rw (← n.high) sh) in
-        let (hv, iv) = all_digits (field 20 28 l) (rw (← n.low) sv) in
+        let (hk, ik) = all_digits (take 2 l) (rw (← n.kind) sk) in
+        let (hx, ix) = all_digits (take 8 (drop 2 l)) (rw (← n.who) sx) in
+        let (ho, io) = all_digits (take 2 (drop 10 l)) (rw (← n.what) so) in
+        let (hh, ih) = all_digits (take 8 (drop 12 l)) (rw (← n.high) sh) in
+        let (hv, iv) = all_digits (take 8 (drop 20 l)) (rw (← n.low) sv) in
         let hex : T (all is_digit (take 28 l))
         = rw (take-add 20 8 l, take-add 12 8 l, take-add 10 2 l, take-add 2 8 l) (search all_append)
         in

@@ -1,3 +1,4 @@
 pub mod Parsed
 pub mod Parts
 pub mod Shape
+pub mod Uses

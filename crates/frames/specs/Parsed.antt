@@ -1,18 +1,11 @@
--- What the code's parsed lines stand for, and a room of bytes with an answer's line in it.
--- Rests on the rules' Frames and on calls' Meaning.
-use Rattle.std.specs.Prelude.{List, ◌++◌, ℕ, ◌+◌, take, drop}
-use Rattle.std.proofs.Math.Option.{Option, none, some}
+-- What the code's parsed lines stand for.
+-- Rests on the rules' Answers and on calls' Calls.
+use Rattle.std.specs.Prelude.{Option, Some, None}
+use Rattle.std.proofs.Math.Option as math
 use Rattle.rules.specs.Answers as rules
-use Rattle.rules.specs.Frames.{write_answer}
-use Rattle.calls.specs.declared.Answer.{Answer}
-use Rattle.calls.specs.Meaning.{call_of, answer_of}
-use Rattle.frames.specs.declared.Parsed.{Parsed}
-use Rattle.frames.specs.declared.Parsed.TheVariants.{Asks, Bad}
+use Rattle.calls.specs.declared.call.Call.{Call}
+use Rattle.calls.specs.Calls.{call_of}
 
-abbrev pub parsed_as : Parsed → Option rules.Call
-parsed_as (Asks c) = some (call_of c)
-parsed_as Bad = none
-
--- the bytes before the place, the answer's line, and the bytes after it
-abbrev pub with_answer : List ℕ → ℕ → Answer → List ℕ
-with_answer bs at a = take at bs ++ write_answer (answer_of a) ++ drop (at + 19) bs
+abbrev pub parsed_as : Option Call → math.Option rules.Call
+parsed_as (Some c) = math.some (call_of c)
+parsed_as None = math.none

@@ -4,3 +4,4 @@ pub mod Growing
 pub mod Living
 pub mod Scanning
 pub mod Settling
+pub mod Writers

@@ -10,7 +10,9 @@ use Rattle.rules.specs.Tables.{Txn, Live, same, place_count, place, place_of, is
 use Rattle.basics.specs.Logic.{equal_says, cond_true, cond_false}
 use Rattle.basics.specs.Ranges.{lowest_is}
 use Rattle.sound_laws.specs.Live.{At, live_at, at_live, nobody_not_live}
-use Rattle.lookups.specs.Places.{live_place}
+use Rattle.std.specs.Prelude.{Option, Some, None, IsSome}
+use Rattle.calls.specs.declared.existing.Place.{Place}
+use Rattle.lookups.specs.Places.{seat_number, live_place}
 
 module _ (ls : List Live) (x : Txn) where
   -- nobody has the number 0
@@ -49,3 +51,12 @@ module _ (ls : List Live) (x : Txn) where
 
     pub there_below : p < place_count → p ≡ place_of ls x
     there_below h = there_live (live_below h)
+
+-- who has a place below 32 is somewhere
+pub placed_somewhere : (s : Option Place) → seat_number s < place_count → IsSome s
+placed_somewhere None h = absurd (omega arith)
+placed_somewhere (Some p) h = refl
+
+pub somewhere_below : (s : Option Place) → IsSome s → seat_number s < place_count
+somewhere_below None h = absurd (cc)
+somewhere_below (Some p) h = p.exists

@@ -3,10 +3,14 @@
 use mathlib.Core.Path.{◌≡◌, ap, sym, ◌∙◌}
 use mathlib.Core.Bool.{Bool}
 use mathlib.Core.List.{List}
-use Prim.Native.Nat.{ℕ, suc, ◌+◌, ◌≤◌, ◌<◌, min}
+use Prim.Native.Nat.{ℕ, suc, ◌+◌, ◌-◌, ◌≤◌, ◌<◌, min}
 use native.Mathlib.Omega.{arith}
 use lib.Dec.{eqb}
-use lib.ListN.{get_or}
+use lib.ListN.{get_or, length, take, drop}
+use Rattle.std.proofs.Common.{◌≢◌, Option, Some, None, le_refl}
+use Rattle.std.proofs.lemmas.Grind.{common_steps, elements}
+use Rattle.std.specs.List.{AllWithin, HoldsAt}
+use Rattle.std.specs.Option.{MatchOption, unwrap_or}
 use Rattle.rules.specs.Tests.{lowest, row}
 use Rattle.rules.specs.Tables.{Txn, Live, txn, nobody, same, place_count, log_room, place, place_of, log_number}
 use Rattle.rules.specs.Layout.{number_at, log_count_at, log_at, word, unpack}
@@ -33,6 +37,27 @@ module _ (ws : List ℕ) (from count x : ℕ) where
   pub first_at_most : first_at ws from count x ≤ count
   unfolding first_at
   first_at_most = (lowest_is count (λ k. eqb (word ws (from + k)) x)).at_most
+
+  -- the part of the words that is looked through
+  abbrev part : List ℕ
+  part = take (from + count - from) (drop from ws)
+
+  long : from + count ≤ length ws → length part ≡ count
+  long h = grind (arith, common_steps)
+
+  read : (k : ℕ) → k < count → get_or part k 0 ≡ word ws (from + k)
+  read k l = grind (arith, elements)
+
+  -- what a search of it gives, or the count where it gives none, is the first
+  pub searched : from + count ≤ length ws → (r : Option ℕ)
+      → MatchOption r (AllWithin (λ w. w ≢ x) part 0 (length part))
+      (λ i. (i < length part) × HoldsAt (λ w. w ≡ x) part i × AllWithin (λ w. w ≢ x) part 0 i)
+      → unwrap_or r count ≡ first_at ws from count x
+  searched h None m =
+      found count (le_refl count) (λ k l e. m k 0 (omega arith) (omega (arith, long h)) (read k l ∙ e)) (λ l. omega arith)
+  searched h (Some i) m =
+      let below : i < count = omega (arith, long h) in
+      found i (omega arith) (λ k l e. m.2 k 0 (omega arith) l (read k (omega arith) ∙ e)) (λ l. sym (read i l) ∙ m.1 0)
 
 module _ (ws : List ℕ) (x : ℕ) where
   -- among the live transactions' numbers, by place

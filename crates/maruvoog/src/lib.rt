@@ -3,35 +3,33 @@
 // leaves; include/mv.h declares them.
 #![tactic(auto)]
 
-ghost use Rattle.std.specs.Prelude.{◌≡◌, T};
-ghost use Rattle.rules.specs.Answers.{is_start, is_read, is_write, is_prepare, is_save, is_commit, is_abort, is_settle, is_crash, is_restart, is_status, is_look};
-ghost use Rattle.rules.specs.Frames.{unused_zero};
+ghost use Rattle.std.specs.Prelude.{◌≡◌};
+ghost use Rattle.rules.specs.Answers.{is_start, is_read, is_write, is_prepare, is_save, is_commit, is_abort, is_settle, is_crash, is_restart, is_status, is_look, unsound};
 ghost use Rattle.rules.specs.Layout.{word_count};
-ghost use Rattle.rules.specs.Session.{call_words, fresh_words, line_words, run_words};
-ghost use Rattle.calls.specs.Meaning.{kind_of, call_of};
+ghost use Rattle.rules.specs.Session.{plainly, call_words, fresh_words, line_words, run_words};
+ghost use Rattle.calls.specs.Calls.{call_of};
+ghost use Rattle.calls.specs.Meaning.{kind_of, answer_of};
 ghost use Rattle.refusals.specs.Reasons.{asking};
 ghost use Rattle.maruvoog.specs.Promised.{Leaves, Runs};
 ghost use Rattle.maruvoog.specs.Unused.{UnusedZero};
 
-use calls::{Answer, Call, Kind, Obj, Txn};
-use frames::Parsed;
+use calls::{Answer, Call, Kind, Obj, Refusal, Txn};
+use frames::Digits;
 
-// The answers that the words' test and a line's reading give before any call.
-const UNSOUND: u64 = 0x01;
-
-const BAD_FRAME: u64 = 0x12;
+// The answer to a call on words that are not sound.
+fn unsound() -> Answer
+    ensures { answer_of result ≡ plainly unsound }
+{
+    Answer::refused(Refusal::Unsound, 0)
+}
 
 // One call: 01 for words that are not sound, else what the rules say.
 fn one(words: &mut [u64], c: Call) -> Answer
-    requires { T (unused_zero (call_of c)) }
     ensures { Leaves (call_words words.old (call_of c)) result words.new }
 {
-    let unsound = !tables::sound(words);
-    if unsound {
-        return Answer {
-            number: UNSOUND,
-            value: 0,
-        };
+    let refused = !tables::sound(words);
+    if refused {
+        return unsound();
     }
     acts::call(words, c)
 }
@@ -52,6 +50,8 @@ fn ask(words: &mut [u64], kind: Kind, txn: u32, object: u8, value: u64) -> Answe
     one(words, c)
 }
 
+// Each kind of call has an exported function: C calls it by name.
+
 // How many words the tables are.
 #[unsafe(no_mangle)]
 pub extern "C" fn mv_word_count() -> usize
@@ -68,15 +68,9 @@ pub extern "C" fn mv_fresh(words: &mut [u64]) -> Answer
     let right_count = words.len() == 1410;
     if right_count {
         ends::fresh(words);
-        Answer {
-            number: 0,
-            value: 0,
-        }
+        Answer::done(0)
     } else {
-        Answer {
-            number: UNSOUND,
-            value: 0,
-        }
+        unsound()
     }
 }
 
@@ -181,14 +175,10 @@ pub extern "C" fn mv_look(words: &mut [u64], object: u8) -> Answer
 pub extern "C" fn mv_line(words: &mut [u64], line: &[u8]) -> Answer
     ensures { Leaves (line_words words.old line.now) result words.new }
 {
-    let values = frames::digit_values();
-    let parsed = frames::read(&values, line);
-    match parsed {
-        Parsed::Asks(c) => one(words, c),
-        Parsed::Bad => Answer {
-            number: BAD_FRAME,
-            value: 0,
-        },
+    let digits = Digits::new();
+    match digits.read(line) {
+        Some(c) => one(words, c),
+        None => Answer::refused(Refusal::BadFrame, 0),
     }
 }
 
@@ -199,14 +189,8 @@ pub extern "C" fn mv_run(words: &mut [u64], calls: &[u8], answers: &mut [u8]) ->
 {
     if tables::sound(words) {
         let ran = runs::run(words, calls, answers);
-        Answer {
-            number: 0,
-            value: ran.lines as u64,
-        }
+        Answer::done(ran.lines as u64)
     } else {
-        Answer {
-            number: UNSOUND,
-            value: 0,
-        }
+        unsound()
     }
 }

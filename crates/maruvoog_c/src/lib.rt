@@ -1,4 +1,5 @@
-// The archive for C: each call of maruvoog under its C name, with the same promise. It holds no code of its own: what a call
+// The archive for C: each call of maruvoog under its C name, with the same promise. The C interface needs the sixteen twice, since a
+// crate is a library or a static library, and `maruvoog` is the one that crates stand on. It holds no code of its own: what a call
 // does and why stands in crates/maruvoog; include/mv.h declares the calls.
 #![tactic(auto)]
 

@@ -3,22 +3,22 @@
 use mathlib.Core.Path.{◌≡◌, refl, ap, ap₂, sym, ◌∙◌}
 use mathlib.Core.Bool.{Bool, true, false, not, cond, ◌&&◌}
 use mathlib.Core.List.{List, [], ◌∷◌, ◌++◌}
-use Prim.Native.Nat.{ℕ, zero, suc, ◌+◌, ◌*◌, ◌≤◌, ◌<◌}
+use Prim.Native.Nat.{ℕ, zero, suc, ◌≤◌, ◌<◌}
 use native.Mathlib.Omega.{arith}
-use lib.Dec.{T, eqb}
+use lib.Dec.{T}
 use Rattle.rules.specs.Tests.{all, every, row, lowest}
 use Rattle.rules.specs.Sets.{has}
-use Rattle.rules.specs.Tables.{Entry, Live, Object, txn, obj, same, object_count, place_count, chain_room, object, chain}
+use Rattle.rules.specs.Tables.{Txn, Entry, Live, Object, obj, same, object_count, chain_room, object, chain}
 use Rattle.rules.specs.Answers.{wrote_one_of}
-use Rattle.rules.specs.Layout.{chain_writer_at, word, unpack, entry_in, saved_count_in, queued_count_in, sound_words}
-use Rattle.basics.specs.Logic.{not_says, equal_says, is_true, is_false}
-use Rattle.basics.specs.Ranges.{every_at, every_of, lowest_is, one_lowest, lowest_same}
+use Rattle.rules.specs.Layout.{unpack, entry_in, saved_count_in, queued_count_in, sound_words}
+use Rattle.basics.specs.Ranges.{lowest_is, one_lowest, lowest_same}
 use Rattle.words_laws.specs.Parts.{row_more}
 use Rattle.words_laws.specs.Fits.{chain_count_in}
 use Rattle.words_laws.specs.Unpacked.{object_read}
-use Rattle.lookups.specs.Places.{live_place}
+use Rattle.lookups.specs.Entries.{wrote_none}
 use Rattle.lookups.proofs.Fitting.{fitting}
-use Rattle.lookups.proofs.Living.{there_below}
+use Rattle.calls.specs.Meaning.{txn_of, IsLive}
+use Rattle.calls.specs.declared.existing.Live as calls
 use Rattle.refusals.proofs.Readings.{asker, asker_read}
 use Rattle.refusals.specs.Lacking.{counted_in, lacks_in, is_lacking}
 
@@ -65,49 +65,23 @@ module _ (ws : List ℕ) (s : T (sound_words ws)) where
       ap (λ (b : Object). b.saved) (object_read ws i h)
       ∙ ap (λ (n : ℕ). row n (entry_in ws i)) (omega arith)
 
-  module _ (x : ℕ) where
-    lacks_says : (queued : Bool) (i : ℕ) → i < object_count → lacks_in ws (txn x) queued i ≡ not (wrote_one_of (txn x) (entries queued i))
-    unfolding lacks_in
-    lacks_says queued i h =
-        let other : Entry → Bool = λ e. not (same e.writer (txn x)) in
-        sym
-        (not_not (all other (entries queued i))
-        ∙ ap (all other) (entries_read queued i h)
-        ∙ all_row other (counted_in ws queued i) (entry_in ws i))
-
-    -- the lowest that lacks an entry by the words does so by the tables
-    pub first_lacking_says : (p : ℕ) (e : p ≡ live_place (unpack ws).live (txn x)) (k : p < place_count) (queued : Bool)
-        → lowest object_count (is_lacking ws (txn x) p queued)
-        ≡ lowest object_count (λ i. has (asker ws x).written i && not (wrote_one_of (txn x) (entries queued i)))
-    first_lacking_says p e k queued =
-        lowest_same object_count (is_lacking ws (txn x) p queued)
-        (λ i. has (asker ws x).written i && not (wrote_one_of (txn x) (entries queued i)))
-        (λ i h. ap₂ ◌&&◌ (ap (λ (l : Live). has l.written i) (asker_read ws s x p (there_below (unpack ws).live (txn x) p e k) k)) (lacks_says queued i h))
-
--- ---- what a loop meets
-
--- the transaction of entry j of object i's chain
-abbrev pub writer : List ℕ → ℕ → ℕ → ℕ
-writer ws i j = word ws (chain_writer_at + (chain_room * i + j))
-
-module _ (ws : List ℕ) (x : ℕ) (queued : Bool) (i : ℕ) where
-  abbrev other : ℕ → Bool
-  other j = not (eqb (writer ws i j) x)
-
-  -- an entry of x, or none
-  pub entry_met : (j : ℕ) → j < counted_in ws queued i → writer ws i j ≡ x → false ≡ lacks_in ws (txn x) queued i
-  unfolding lacks_in
-  entry_met j h e =
+  lacks_says : (x : Txn) (queued : Bool) (i : ℕ) → i < object_count → lacks_in ws x queued i ≡ not (wrote_one_of x (entries queued i))
+  unfolding wrote_none
+  lacks_says x queued i h =
+      let other : Entry → Bool = λ e. not (same e.writer x) in
       sym
-      (is_false (every (counted_in ws queued i) other)
-      (λ t. (not_says (eqb (writer ws i j) x)).0 (every_at (counted_in ws queued i) other t j h) ((equal_says (writer ws i j) x).1 e)))
+      (not_not (all other (entries queued i))
+      ∙ ap (all other) (entries_read queued i h)
+      ∙ all_row other (counted_in ws queued i) (entry_in ws i))
 
-  pub none_met : ((j : ℕ) → j < counted_in ws queued i → writer ws i j ≡ x → ⊥) → true ≡ lacks_in ws (txn x) queued i
-  unfolding lacks_in
-  none_met f =
-      sym
-      (is_true (every (counted_in ws queued i) other)
-      (every_of (counted_in ws queued i) other (λ j h. (not_says (eqb (writer ws i j) x)).1 (λ t. f j h ((equal_says (writer ws i j) x).0 t)))))
+  -- the lowest that lacks an entry by the words does so by the tables
+  pub first_lacking_says : (l : calls.Live) → IsLive (unpack ws) l → (queued : Bool)
+      → lowest object_count (is_lacking ws (txn_of l.who) l.place.num queued)
+      ≡ lowest object_count (λ i. has (asker ws l).written i && not (wrote_one_of (txn_of l.who) (entries queued i)))
+  first_lacking_says l e queued =
+      lowest_same object_count (is_lacking ws (txn_of l.who) l.place.num queued)
+      (λ i. has (asker ws l).written i && not (wrote_one_of (txn_of l.who) (entries queued i)))
+      (λ i h. ap₂ ◌&&◌ (ap (λ (q : Live). has q.written i) (asker_read ws s l e)) (lacks_says (txn_of l.who) queued i h))
 
 -- the first that passes is the lowest
 

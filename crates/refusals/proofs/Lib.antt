@@ -1,5 +1,4 @@
 pub mod Readings
-pub mod Whys
 pub mod Deciding
 pub mod Naming
 pub mod Accessing

@@ -1,275 +1,246 @@
 // Why a call is refused: on sound words, the first reason of the call's order whose fact holds, found by tests in that
-// order. A place p that comes with a transaction is the one that it has, or 32 where it is not live.
-#![tactic(auto)]
+// order.
+#![tactic(auto, using(lookups::proofs::Fitting::fitting))]
 
-ghost use Rattle.std.specs.Prelude.{◌≡◌, not, ◌||◌, List, ℕ, ◌<◌, T, ltb};
+ghost use Rattle.std.specs.Prelude.{◌≡◌, not, ◌||◌, List, ℕ, T, ltb};
 ghost use Rattle.rules.specs.Tests.{lowest};
-ghost use Rattle.rules.specs.Tables.{obj, nobody, same, object_count, place_count};
-ghost use Rattle.rules.specs.Answers.{is_start, is_prepare, is_commit, is_crash, is_status, is_missing, is_unsaved};
+ghost use Rattle.rules.specs.Tables.{obj, nobody, same, object_count};
+ghost use Rattle.rules.specs.Answers.{is_start, is_prepare, is_commit, is_abort, is_crash, is_status, is_missing, is_unsaved};
 ghost use Rattle.rules.specs.Layout.{sound_words, unpack};
-ghost use Rattle.calls.specs.Meaning.{txn_of, obj_of};
-ghost use Rattle.lookups.specs.Places.{live_place};
+ghost use Rattle.lent.specs.Held.{held};
+ghost use Rattle.calls.specs.Meaning.{txn_of, obj_of, IsLive};
 ghost use Rattle.refusals.specs.Lacking.{counted_in, lacks_in, is_lacking};
 ghost use Rattle.refusals.specs.Reasons.{calling, Refuses, RefusesAccess, RefusesObject, Lives, Names};
 
-use calls::{Obj, Txn};
-
-// The reasons for which a call on sound words is not done.
-#[derive(Clone, Copy)]
-pub enum Why {
-    Done,
-    NoSuchObject,
-    NeverGivenOut,
-    NoLongerLive,
-    AfterAPrepare,
-    Lost,
-    Wait,
-    Died,
-    NotAccessed,
-    PreparedBefore,
-    ChainFull,
-    Unprepared,
-    Unsaved,
-    DependencyLive,
-    LogFull,
-    PlacesFull,
-    NumbersSpent,
-}
+use calls::{Live, NOBODY, Obj, Object, Refusal, Txn};
+use lent::Tables;
+use lookups::Seated;
 
 // Whether the number was never given out: 0, or one from the next number on.
-fn never_given(words: &[u64], x: Txn) -> bool
-    requires { T (sound_words words.now) }
-    ensures { result ≡ (same (txn_of x) nobody || not (ltb x.num (unpack words.now).next.num)) }
+fn never_given(t: &Tables, x: Txn) -> bool
+    ensures { result ≡ (same (txn_of x) nobody || not (ltb x.num (held t.now).next.num)) }
 {
     let next = Txn {
-        num: words[layout::NEXT],
+        num: t.words[layout::NEXT],
     };
-    x.num == 0 || next.num <= x.num
+    x == NOBODY || next <= x
 }
 
 // Start.
-pub fn of_start(words: &[u64]) -> Why
-    requires { T (sound_words words.now) }
-    ensures { Refuses words.now (calling is_start nobody (obj 0) 0) result }
+pub fn of_start(t: &Tables) -> Result<(), Refusal>
+    ensures { Refuses (held t.now) (calling is_start nobody (obj 0) 0) result }
 {
     let next = Txn {
-        num: words[layout::NEXT],
+        num: t.words[layout::NEXT],
     };
     let spent = 999999 < next.num;
     if spent {
-        return Why::NumbersSpent;
+        return Err(Refusal::NumbersSpent);
     }
-    if lookups::free_places(words) == 0 {
-        Why::PlacesFull
-    } else {
-        Why::Done
+    if lookups::free_places(t) == 0 {
+        return Err(Refusal::PlacesFull);
     }
+    Ok(())
 }
 
 // Save, settle and look, which name an object alone.
-pub fn of_object(o: Obj) -> Why
+pub fn of_object(o: Obj) -> Result<(), Refusal>
     ensures { RefusesObject (obj_of o) result }
 {
-    let is_object = o.num < 32;
+    let is_object = o.num < layout::OBJECTS;
     if is_object {
-        Why::Done
+        Ok(())
     } else {
-        Why::NoSuchObject
+        Err(Refusal::NoSuchObject)
     }
 }
 
 // Crash, whose value is a set of objects.
-pub fn of_set(v: u64) -> Why
-    ensures { (ws : List ℕ) → T (sound_words ws) → Refuses ws (calling is_crash nobody (obj 0) v) result }
+pub fn of_set(v: u64) -> Result<(), Refusal>
+    ensures { (ws : List ℕ) → T (sound_words ws) → Refuses (unpack ws) (calling is_crash nobody (obj 0) v) result }
 {
     let too_large = 4294967296 <= v;
     if too_large {
-        Why::NoSuchObject
+        Err(Refusal::NoSuchObject)
     } else {
-        Why::Done
+        Ok(())
     }
 }
 
 // Status.
-pub fn of_status(words: &[u64], x: Txn) -> Why
-    requires { T (sound_words words.now) }
-    ensures { Refuses words.now (calling is_status (txn_of x) (obj 0) 0) result }
+pub fn of_status(t: &Tables, x: Txn) -> Result<(), Refusal>
+    ensures { Refuses (held t.now) (calling is_status (txn_of x) (obj 0) 0) result }
 {
-    if never_given(words, x) {
-        Why::NeverGivenOut
+    if never_given(t, x) {
+        Err(Refusal::NeverGivenOut)
     } else {
-        Why::Done
+        Ok(())
     }
 }
 
-// Abort, which names a transaction alone. A live one was given out, so that is not asked of it.
-pub fn of_transaction(words: &[u64], x: Txn, p: usize) -> Why
-    requires { T (sound_words words.now) × (p ≡ live_place (unpack words.now).live (txn_of x)) }
-    ensures { Lives words.now (txn_of x) p result }
+// What a call that names a transaction is first refused for. A live one was given out, so that is not asked of it.
+pub fn of_transaction(s: &Seated) -> Result<Live, Refusal>
+    ensures { Lives (held s.now.tables) (txn_of s.now.who) result }
 {
-    let placed = p < 32;
-    if placed {
-        return Why::Done;
+    if let Some(place) = s.seat {
+        return Ok(Live { who: s.who, place });
     }
-    if never_given(words, x) {
-        return Why::NeverGivenOut;
+    if never_given(&s.tables, s.who) {
+        return Err(Refusal::NeverGivenOut);
     }
-    Why::NoLongerLive
+    Err(Refusal::NoLongerLive)
 }
 
 // What read, write and prepare are first refused for: they name an object and a transaction.
-fn of_names(words: &[u64], x: Txn, p: usize, o: Obj) -> Why
-    requires { T (sound_words words.now) × (p ≡ live_place (unpack words.now).live (txn_of x)) }
-    ensures { Names words.now (txn_of x) p (obj_of o) result }
+fn of_names(s: &Seated, o: Obj) -> Result<(Live, Object), Refusal>
+    ensures { Names (held s.now.tables) (txn_of s.now.who) (obj_of o) result }
 {
-    let no_object = 32 <= o.num;
+    let no_object = layout::OBJECTS <= o.num;
     if no_object {
-        return Why::NoSuchObject;
+        return Err(Refusal::NoSuchObject);
     }
-    of_transaction(words, x, p)
+    let live = of_transaction(s)?;
+    Ok((live, Object { num: o.num }))
+}
+
+// Abort.
+pub fn of_abort(s: &Seated) -> Result<(), Refusal>
+    ensures { Refuses (held s.now.tables) (calling is_abort (txn_of s.now.who) (obj 0) 0) result }
+{
+    of_transaction(s)?;
+    Ok(())
 }
 
 // Read and write.
-pub fn of_access(words: &[u64], x: Txn, p: usize, o: Obj) -> Why
-    requires { T (sound_words words.now) × (p ≡ live_place (unpack words.now).live (txn_of x)) }
-    ensures { RefusesAccess words.now (txn_of x) (obj_of o) result }
+pub fn of_access(s: &Seated, o: Obj) -> Result<(), Refusal>
+    ensures { RefusesAccess (held s.now.tables) (txn_of s.now.who) (obj_of o) result }
 {
-    let named = of_names(words, x, p, o);
-    let Why::Done = named else {
-        return named;
-    };
-    if words[layout::PREPARED + p] != 0 {
-        return Why::AfterAPrepare;
+    let t = &s.tables;
+    let (live, o) = of_names(s, o)?;
+    let x = live.who;
+    let p = live.place.num;
+    if t.words[layout::PREPARED + p] != 0 {
+        return Err(Refusal::AfterAPrepare);
     }
-    let holder = lookups::holder(words, o);
-    if sets::has(words[layout::ACCESSED + p], o.num as u64) {
-        if holder.num == x.num {
-            return Why::Done;
+    let holder = lookups::holder(t.words, o);
+    if sets::has(t.words[layout::ACCESSED + p], o.num) {
+        let held = holder == x;
+        if held {
+            return Ok(());
         }
-        return Why::Lost;
+        return Err(Refusal::Lost);
     }
-    if holder.num == 0 {
-        return Why::Done;
+    if holder == NOBODY {
+        return Ok(());
     }
-    let older = x.num < holder.num;
-    if older { Why::Wait } else { Why::Died }
+    let older = x < holder;
+    if older {
+        Err(Refusal::Wait)
+    } else {
+        Err(Refusal::Died)
+    }
 }
 
 // Prepare.
-pub fn of_prepare(words: &[u64], x: Txn, p: usize, o: Obj) -> Why
-    requires { T (sound_words words.now) × (p ≡ live_place (unpack words.now).live (txn_of x)) }
-    ensures { Refuses words.now (calling is_prepare (txn_of x) (obj_of o) 0) result }
+pub fn of_prepare(s: &Seated, o: Obj) -> Result<(), Refusal>
+    ensures { Refuses (held s.now.tables) (calling is_prepare (txn_of s.now.who) (obj_of o) 0) result }
 {
-    let named = of_names(words, x, p, o);
-    let Why::Done = named else {
-        return named;
-    };
-    let i = o.num as u64;
-    if !sets::has(words[layout::ACCESSED + p], i) {
-        return Why::NotAccessed;
+    let t = &s.tables;
+    let (live, o) = of_names(s, o)?;
+    let p = live.place.num;
+    if !sets::has(t.words[layout::ACCESSED + p], o.num) {
+        return Err(Refusal::NotAccessed);
     }
-    if sets::has(words[layout::PREPARED + p], i) {
-        return Why::PreparedBefore;
+    if sets::has(t.words[layout::PREPARED + p], o.num) {
+        return Err(Refusal::PreparedBefore);
     }
-    let holder = lookups::holder(words, o);
-    if holder.num != x.num {
-        return Why::Lost;
+    if lookups::holder(t.words, o) != live.who {
+        return Err(Refusal::Lost);
     }
-    if sets::has(words[layout::WRITTEN + p], i) {
-        let full = 8 <= counted(words, o, true);
+    if sets::has(t.words[layout::WRITTEN + p], o.num) {
+        let full = layout::CHAIN_ROOM <= counted(t, o, true);
         if full {
-            return Why::ChainFull;
+            return Err(Refusal::ChainFull);
         }
     }
-    Why::Done
+    Ok(())
 }
 
-// How many entries of object o's chain count: the saved ones, with the queued ones or without.
-fn counted(words: &[u64], o: Obj, queued: bool) -> usize
-    requires { T (sound_words words.now) × (o.num < object_count) }
-    ensures { result ≡ counted_in words.now queued o.num }
+// How many entries of an object's chain count: the saved ones, with the queued ones or without.
+fn counted(t: &Tables, o: Object, queued: bool) -> usize
+    ensures { result ≡ counted_in t.now.words.now queued o.num }
 {
     let i = o.num;
-    let saved = words[layout::SAVED_COUNT + i] as usize;
+    let saved = t.words[layout::SAVED_COUNT + i] as usize;
     if queued {
-        saved + words[layout::QUEUED_COUNT + i] as usize
+        saved + t.words[layout::QUEUED_COUNT + i] as usize
     } else {
         saved
     }
 }
 
 // Whether none of those entries is of transaction x.
-fn lacks(words: &[u64], x: Txn, o: Obj, queued: bool) -> bool
-    requires { T (sound_words words.now) × (o.num < object_count) }
-    ensures { result ≡ lacks_in words.now (txn_of x) queued o.num }
+fn lacks(t: &Tables, x: Txn, o: Object, queued: bool) -> bool
+    ensures { result ≡ lacks_in t.now.words.now (txn_of x) queued o.num }
 {
-    let i = o.num;
-    let count = counted(words, o, queued);
-    for j in 0..count {
-        let writer = Txn {
-            num: words[layout::CHAIN_WRITER + (8 * i + j)],
-        };
-        if writer.num == x.num {
-            return false;
-        }
-    }
-    true
+    lookups::wrote_none(t.words, o, counted(t, o, queued), x)
 }
 
-// The lowest object that the transaction x at place p wrote and that lacks an entry of it, or 32 where there is none.
-fn first_lacking(words: &[u64], x: Txn, p: usize, queued: bool) -> Obj
-    requires { T (sound_words words.now) × (p < place_count) }
-    ensures { result.num ≡ lowest object_count (is_lacking words.now (txn_of x) p queued) }
+// The lowest object that the transaction wrote and that lacks an entry of it. It is no Option: where there is none the rules'
+// `lowest` gives 32, and a refusal's value is that number.
+fn first_lacking(t: &Tables, live: Live, queued: bool) -> Obj
+    ensures { result.num ≡ lowest object_count (is_lacking t.now.words.now (txn_of live.who) live.place.num queued) }
 {
-    let written = words[layout::WRITTEN + p];
-    for i in 0..32usize {
-        let o = Obj { num: i };
-        if sets::has(written, i as u64) {
-            if lacks(words, x, o, queued) {
-                return o;
-            }
+    let written = t.words[layout::WRITTEN + live.place.num];
+    for i in 0..layout::OBJECTS {
+        if sets::has(written, i) && lacks(t, live.who, Object { num: i }, queued) {
+            return Obj { num: i };
         }
     }
-    Obj { num: 32 }
+    Obj {
+        num: layout::OBJECTS,
+    }
 }
 
-// The lowest object that the transaction x at place p wrote and whose chain has no entry of it, or 32 where there is none.
-pub fn first_missing(words: &[u64], x: Txn, p: usize) -> Obj
-    requires { T (sound_words words.now) × (p ≡ live_place (unpack words.now).live (txn_of x)) × (p < place_count) }
-    ensures { result.num ≡ lowest object_count (is_missing (unpack words.now) (calling is_commit (txn_of x) (obj 0) 0)) }
+// Two names of `first_lacking`, each with the rules' own fact. The lowest object that the transaction wrote and whose chain has no
+// entry of it, or 32 where there is none.
+pub fn first_missing(t: &Tables, live: Live) -> Obj
+    requires { IsLive (held t.now) live }
+    ensures { result.num ≡ lowest object_count (is_missing (held t.now) (calling is_commit (txn_of live.who) (obj 0) 0)) }
 {
-    first_lacking(words, x, p, true)
+    first_lacking(t, live, true)
 }
 
 // The lowest object that it wrote and whose saved entries have none of it, or 32 where there is none.
-pub fn first_unsaved(words: &[u64], x: Txn, p: usize) -> Obj
-    requires { T (sound_words words.now) × (p ≡ live_place (unpack words.now).live (txn_of x)) × (p < place_count) }
-    ensures { result.num ≡ lowest object_count (is_unsaved (unpack words.now) (calling is_commit (txn_of x) (obj 0) 0)) }
+pub fn first_unsaved(t: &Tables, live: Live) -> Obj
+    requires { IsLive (held t.now) live }
+    ensures { result.num ≡ lowest object_count (is_unsaved (held t.now) (calling is_commit (txn_of live.who) (obj 0) 0)) }
 {
-    first_lacking(words, x, p, false)
+    first_lacking(t, live, false)
 }
 
 // Commit.
-pub fn of_commit(words: &[u64], x: Txn, p: usize) -> Why
-    requires { T (sound_words words.now) × (p ≡ live_place (unpack words.now).live (txn_of x)) }
-    ensures { Refuses words.now (calling is_commit (txn_of x) (obj 0) 0) result }
+pub fn of_commit(s: &Seated) -> Result<(), Refusal>
+    ensures { Refuses (held s.now.tables) (calling is_commit (txn_of s.now.who) (obj 0) 0) result }
 {
-    let named = of_transaction(words, x, p);
-    let Why::Done = named else {
-        return named;
-    };
-    if !sets::within(words[layout::ACCESSED + p], words[layout::PREPARED + p]) {
-        return Why::Unprepared;
+    let t = &s.tables;
+    let live = of_transaction(s)?;
+    let p = live.place.num;
+    if !sets::within(t.words[layout::ACCESSED + p], t.words[layout::PREPARED + p]) {
+        return Err(Refusal::Unprepared);
     }
-    if first_missing(words, x, p).num < 32 {
-        return Why::Lost;
+    if first_missing(t, live).num < layout::OBJECTS {
+        return Err(Refusal::Lost);
     }
-    if first_unsaved(words, x, p).num < 32 {
-        return Why::Unsaved;
+    if first_unsaved(t, live).num < layout::OBJECTS {
+        return Err(Refusal::Unsaved);
     }
-    if words[layout::DEPENDS + p] != 0 {
-        return Why::DependencyLive;
+    if t.words[layout::DEPENDS + p] != 0 {
+        return Err(Refusal::DependencyLive);
     }
-    let full = 512 <= words[layout::LOG_COUNT];
-    if full { Why::LogFull } else { Why::Done }
+    let full = layout::LOG_ROOM as u64 <= t.words[layout::LOG_COUNT];
+    if full {
+        return Err(Refusal::LogFull);
+    }
+    Ok(())
 }

@@ -8,7 +8,7 @@ use Prim.Native.Nat.{ℕ, ◌+◌, ◌-◌, ◌*◌, ◌/◌, ◌≤◌, ◌<◌
 use native.Mathlib.Omega.{arith}
 use lib.Dec.{T}
 use lib.ListN.{length, take, drop, length-append, length-drop, drop_of_length-le}
-use lib.Seq.{length-take-le, take_all, take_at, drop-append-add, drop-drop}
+use lib.Seq.{length-take-le, take_all, take_at, drop_at, drop-drop}
 use Rattle.rules.specs.Tables.{Tables}
 use Rattle.rules.specs.Sound.{sound}
 use Rattle.rules.specs.Frames.{write_answer}
@@ -16,7 +16,7 @@ use Rattle.rules.specs.Layout.{pack, unpack, sound_words}
 use Rattle.rules.specs.Session.{lines, line, answer_lines, answer_length, tables_after_lines, answered}
 use Rattle.frames_laws.specs.Lines as laws
 use Rattle.frames_laws.specs.Lines.{flat}
-use Rattle.words_laws.specs.Words.{pack_length, words_again, tables_again, packed_sound, unpacked_sound}
+use Rattle.words_laws.specs.Words.{words_again, tables_again, packed_sound, unpacked_sound}
 use Rattle.runs.specs.Kept.{lines_sound}
 use Rattle.runs.specs.Ran.{RanLines}
 use Rattle.runs.specs.Stepped.{Stepped}
@@ -81,9 +81,6 @@ module _ (ws text room : List ℕ) (s : T (sound_words ws)) where
     pub stays_sound : T (sound_words vs)
     stays_sound = rw r.left (packed_sound (tables_after_lines (unpack ws) r.done) now_sound)
 
-    pub words_length : length vs ≡ length ws
-    words_length = ap length r.left ∙ pack_length _ ∙ sym (pack_length (unpack ws)) ∙ ap length (words_again ws s)
-
     written_length : length (answer_lines (unpack ws) r.done) ≡ answer_length * n
     written_length = answers_length (unpack ws) r.done ∙ rw r.count
 
@@ -91,14 +88,16 @@ module _ (ws text room : List ℕ) (s : T (sound_words ws)) where
     room_length = ap length r.answers ∙ simp (length-append, length-drop) (omega (arith, written_length, r.fits))
 
     pub one_more : (m : ℕ) (us bytes : List ℕ) → answer_length * n + answer_length ≤ length room
-        → Stepped vs (drop at text) filled (answer_length * n) m us bytes → Through ws text room (n + 1) (at + m) us bytes
+        → Stepped vs (drop at text) (drop (answer_length * n) filled) m us bytes
+        → Through ws text room (n + 1) (at + m) us (take (answer_length * n) filled ++ bytes)
     one_more m us bytes h step =
         let t = tables_after_lines (unpack ws) r.done in
         let l = take m (drop at text) in
         let written = answer_lines (unpack ws) r.done in
+        let place = answer_length * n in
         let rest : m ≤ length text - at = rw length-drop at step.first.within in
         let long : length l ≡ m = length-take-le m (drop at text) step.first.within in
-        let next_place : length written + answer_length ≡ answer_length * (n + 1) = omega (arith, written_length) in
+        let next_place : place + answer_length ≡ answer_length * (n + 1) = omega arith in
         let unpacked : unpack vs ≡ t = ap unpack r.left ∙ tables_again t now_sound in
         record {
           done = r.done ++ l ∷ [];
@@ -108,11 +107,9 @@ module _ (ws text room : List ℕ) (s : T (sound_words ws)) where
           within = omega (arith, rest);
           left = step.left ∙ rw (unpacked, tables_more (unpack ws) r.done l);
           answers =
-              step.answers
-              ∙ rw (unpacked, r.answers, answers_more (unpack ws) r.done l)
-              (rw (take_at written (drop (answer_length * n) room) (answer_length * n) written_length, ← written_length)
-              (rw (drop-append-add written (drop (length written) room) answer_length, drop-drop answer_length (length written) room)
-              (rw next_place)));
+              rw (step.answers, unpacked, r.answers, answers_more (unpack ws) r.done l)
+              (rw (take_at written (drop place room) place written_length, drop_at written (drop place room) place written_length)
+              (rw (drop-drop answer_length place room, next_place, append_assoc)));
           fits = omega arith;
         }
 

@@ -1,10 +1,13 @@
 -- The first line of a text: where it ends, and what tells that it ends there.
 -- Rests on the rules' Frames and Session. Assumes nothing.
-use Rattle.std.specs.Prelude.{◌≡◌, List, [], ◌∷◌, ℕ, zero, suc, ◌+◌, ◌≤◌, ◌<◌, length, get_or, take, drop}
+use Rattle.std.specs.Prelude.{◌≡◌, ◌==◌, Bool, List, [], ◌∷◌, ℕ, zero, suc, ◌+◌, ◌≤◌, ◌<◌, length, get_or, take, drop}
 use Rattle.std.proofs.Common.{add-one, arith, eq-eqb, ne_eqb}
 use Rattle.std.proofs.Math.Seq.{take-length, drop-length}
 use Rattle.rules.specs.Frames.{line_feed}
 use Rattle.rules.specs.Session.{onto_first, lines}
+
+abbrev pub is_line_feed : ℕ → Bool
+is_line_feed b = b == line_feed
 
 -- the first n bytes of the text are its first line
 pub record FirstLine (text : List ℕ) (n : ℕ) : Type 0 where

@@ -1,12 +1,14 @@
 -- The first line of a text, and what its first 29 bytes tell of it: where they are a frame, they are that line, and where
 -- they are none, that line is none. And what it means that the first line was answered.
--- Rests on the rules' Frames, on basics' Lists, on frames' Shape, and on Cut and Ran. Assumes nothing.
+-- Rests on the rules' Frames and Session, on basics' Lists, on calls' Meaning, on frames' Shape, and on Cut and Ran. Assumes nothing.
 use Rattle.std.specs.Prelude.{◌≡◌, refl, List, ℕ, ◌<◌, T, length, get_or, take}
 use Rattle.std.proofs.Common.{sym, ap, ◌∙◌, arith, length-take, length-take-le, get_or-take}
 use Rattle.std.proofs.Math.Option.{Option, none, some}
-use Rattle.rules.specs.Answers.{Call}
+use Rattle.rules.specs.Answers.{Call, bad_frame}
 use Rattle.rules.specs.Frames.{frame_length, is_digit, read_frame}
+use Rattle.rules.specs.Session.{plainly}
 use Rattle.basics.specs.Lists.{all_says, All-at}
+use Rattle.calls.specs.Meaning.{answer_of}
 use Rattle.frames.specs.Shape.{Shape, read_shape}
 use Rattle.runs.specs.declared.Answered.{Answered}
 use Rattle.runs.specs.Cut.{FirstLine, Unended, ends_at}
@@ -14,7 +16,7 @@ use Rattle.runs.specs.Ran.{LineActed}
 
 -- the answer is that to a bad frame, and the length that of the first line
 pub record BadFrame (text : List ℕ) (r : Answered) : Type 0 where
-  pub answer : r.answer ≡ record { number = 0x12; value = 0 }
+  pub answer : answer_of r.answer ≡ plainly bad_frame
   pub first : FirstLine text r.length
 
 pub record FirstActed (ws text : List ℕ) (r : Answered) (vs : List ℕ) : Type 0 where

@@ -1,24 +1,24 @@
-// A text of many lines on sound words: each line is answered in turn, as long as the answers' room has a line left.
+// A text of many lines on sound words: each line is answered in turn, as long as the answers' room has a line left. That a text
+// is not empty is a clause: no slice has a type for it.
 #![tactic(auto)]
 
-ghost use Rattle.std.specs.Prelude.{◌≡◌, ◌+◌, ◌≤◌, ◌<◌, T, length};
+ghost use Rattle.std.specs.Prelude.{◌≡◌, ◌≤◌, ◌<◌, T, length, position};
 ghost use Rattle.rules.specs.Layout.{sound_words};
-ghost use Rattle.frames.specs.Parts.{digit_values};
-ghost use Rattle.runs.specs.Cut.{FirstLine};
+ghost use Rattle.runs.specs.Cut.{FirstLine, is_line_feed};
 ghost use Rattle.runs.specs.First.{BadFrame, FirstActed};
 ghost use Rattle.runs.specs.Ran.{RanLines};
 ghost use Rattle.runs.specs.Stepped.{Stepped};
 
-use calls::Answer;
-use frames::{DigitValues, Parsed};
+use calls::{Answer, Refusal};
+use frames::Digits;
 
 const LINE_FEED: u8 = 10;
 
 // How many bytes a frame has, its line feed among them.
 const FRAME: usize = 29;
 
-// The answer to a line that is no frame.
-const BAD_FRAME: u64 = 0x12;
+// How many bytes an answer's line has.
+const ANSWER: usize = 19;
 
 // How many lines were answered, and how many bytes of the text they were.
 #[derive(Clone, Copy)]
@@ -34,19 +34,22 @@ struct Answered {
     length: usize,
 }
 
+// The place of the first line feed of a text.
+fn line_end(text: &[u8]) -> Option<usize>
+    ensures { result ≡ position is_line_feed text.now }
+{
+    text.iter().position(|byte| *byte == LINE_FEED)
+}
+
 // How many bytes the first line of a text has, its line feed among them.
 fn line_length(text: &[u8]) -> usize
     requires { 0 < length text.now }
     ensures { FirstLine text.now result }
 {
-    let mut passed = 0;
-    while passed < text.len() {
-        if text[passed] == LINE_FEED {
-            return passed + 1;
-        }
-        passed += 1;
+    match line_end(text) {
+        Some(last) => last + 1,
+        None => text.len(),
     }
-    passed
 }
 
 // What the first line of a text is given where it is no frame.
@@ -55,50 +58,37 @@ fn bad(text: &[u8]) -> Answered
     ensures { BadFrame text.now result }
 {
     Answered {
-        answer: Answer {
-            number: BAD_FRAME,
-            value: 0,
-        },
+        answer: Answer::refused(Refusal::BadFrame, 0),
         length: line_length(text),
     }
 }
 
 // Answers the first line of a text. Where the text begins with a frame, that is the line, and nothing looks for its end.
 // What is read is asked at once: to hand it on from a function of its own costs as much as to read it.
-fn first(values: &DigitValues, words: &mut [u64], text: &[u8]) -> Answered
-    requires digits { values.now ≡ digit_values }
-    requires ready { T (sound_words words.old) × (0 < length text.now) }
+fn first(digits: &Digits, words: &mut [u64], text: &[u8]) -> Answered
+    requires { T (sound_words words.old) × (0 < length text.now) }
     ensures { FirstActed words.old text.now result words.new }
 {
     let short = text.len() < FRAME;
     if short {
         return bad(text);
     }
-    let parsed = frames::read(values, &text[..FRAME]);
-    match parsed {
-        Parsed::Asks(c) => Answered {
+    match digits.read(&text[..FRAME]) {
+        Some(c) => Answered {
             answer: acts::call(words, c),
             length: FRAME,
         },
-        Parsed::Bad => bad(text),
+        None => bad(text),
     }
 }
 
-// Answers the first line of a text at a place of the room, and gives how many bytes the line has.
-fn step(
-    values: &DigitValues,
-    words: &mut [u64],
-    text: &[u8],
-    answers: &mut [u8],
-    to: usize,
-) -> usize
-    requires digits { values.now ≡ digit_values }
-    requires ready { T (sound_words words.old) × (0 < length text.now) × (to + 19 ≤ length answers.old) }
-    ensures { Stepped words.old text.now answers.old to result words.new answers.new }
+// Answers the first line of a text at the front of the room, and gives how many bytes the line has.
+fn step(digits: &Digits, words: &mut [u64], text: &[u8], room: &mut [u8]) -> usize
+    requires { T (sound_words words.old) × (0 < length text.now) × (19 ≤ length room.old) }
+    ensures { Stepped words.old text.now room.old result words.new room.new }
 {
-    let line = first(values, words, text);
-    let answer = line.answer;
-    frames::write(answers, to, answer);
+    let line = first(digits, words, text);
+    frames::write(room, line.answer);
     line.length
 }
 
@@ -107,16 +97,16 @@ pub fn run(words: &mut [u64], calls: &[u8], answers: &mut [u8]) -> Ran
     requires { T (sound_words words.old) }
     ensures { RanLines words.old calls.now answers.old result words.new answers.new }
 {
-    let values = frames::digit_values();
+    let digits = Digits::new();
     let mut lines = 0;
     let mut used = 0;
-    let mut to = 0;
+    // No `for`: each line says how many bytes it had.
     while used < calls.len() {
-        if answers.len() < to + 19 {
+        let at = ANSWER * lines;
+        if answers.len() < at + ANSWER {
             return Ran { lines, used };
         }
-        used += step(&values, words, &calls[used..], answers, to);
-        to += 19;
+        used += step(&digits, words, &calls[used..], &mut answers[at..]);
         lines += 1;
     }
     Ran { lines, used }

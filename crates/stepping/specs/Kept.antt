@@ -2,15 +2,9 @@
 -- Rests on the rules' Frames.
 use Rattle.std.specs.Prelude.{◌≡◌, List, ◌⊎◌, ℕ, ◌+◌, ◌≤◌, ◌<◌, length, get_or, take, drop}
 use Rattle.rules.specs.Frames.{line_feed}
-use Rattle.stepping.specs.declared.Next.{Next}
-use Rattle.stepping.specs.declared.Next.TheVariants.{Keeps, Ends}
 
 abbrev pub most_kept : ℕ
 most_kept = 30
-
-abbrev pub kept_of : Next → ℕ
-kept_of (Keeps n) = n
-kept_of Ends = 0
 
 -- the first n bytes end in the last line feed of the text
 pub record Whole (text : List ℕ) (n : ℕ) : Type 0 where
@@ -20,6 +14,7 @@ pub record Whole (text : List ℕ) (n : ℕ) : Type 0 where
 
 -- the bytes between two places stand at the front now, all of them or as many as are kept
 pub record Moved (bs : List ℕ) (from end n : ℕ) (cs : List ℕ) : Type 0 where
+  pub within : from + n ≤ end
   pub few : n ≤ most_kept
   pub all : (from + n ≡ end) ⊎ (n ≡ most_kept)
   pub moved : take n cs ≡ take n (drop from bs)

@@ -1,1 +1,3 @@
 pub mod Kept
+pub mod Answered
+pub mod Whole

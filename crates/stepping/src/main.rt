@@ -3,9 +3,10 @@
 // longer line is no frame.
 #![tactic(auto)]
 
-ghost use Rattle.std.specs.Prelude.{◌≡◌, ◌≤◌, T, length, IfOk};
+ghost use Rattle.std.specs.Prelude.{◌≤◌, T, length, take, OnOk, IfOk};
 ghost use Rattle.rules.specs.Layout.{sound_words};
-ghost use Rattle.stepping.specs.Kept.{most_kept, kept_of, Whole, Moved};
+ghost use Rattle.stepping.specs.Answered.{Answered, Turned, AllAnswered};
+ghost use Rattle.stepping.specs.Kept.{most_kept, Whole, Moved};
 
 use std::io;
 use std::io::{Read, Write};
@@ -19,103 +20,82 @@ const MOST_KEPT: usize = 30;
 // lines.
 const BUFFER_LENGTH: usize = 65536;
 
-// What is left to do after a turn.
+// The tables that answer, and room for answers on their way to the output.
 #[derive(Drop)]
-enum Next {
-    // To read on behind so many bytes of an unfinished line.
-    Keeps(usize),
-    // Nothing: the input has ended.
-    Ends,
+struct Answerer {
+    words: [u64; 1410],
+    room: [u8; BUFFER_LENGTH],
+    ghost sound: { T (sound_words words) },
 }
 
-// Answers the lines of a text as often as the room has to be emptied. It stops where the answers cannot be written.
-fn answer<W: Write>(
-    output: &mut W,
-    words: &mut [u64],
-    text: &[u8],
-    room: &mut [u8],
-) -> io::Result<()>
-    requires { T (sound_words words.old) × (19 ≤ length room.old) }
-    ensures { T (sound_words words.new) }
-{
-    let mut at = 0;
-    while at < text.len() {
-        let ran = runs::run(words, &text[at..], room);
-        let filled = 19 * ran.lines;
-        output.write_all(&room[..filled])?;
-        at += ran.used;
+impl Answerer {
+    // Answers the lines of a text as often as the room has to be emptied. It stops where the answers cannot be written.
+    fn answer<W: Write>(&mut self, output: &mut W, text: &[u8]) -> io::Result<()>
+        ensures { OnOk result (Answered self.old.words text.now (W.contents output.old) self.new.words (W.contents output.new)) }
+    {
+        // No `for`: each run says how many bytes its lines had.
+        let mut at = 0;
+        while at < text.len() {
+            let ran = runs::run(&mut self.words, &text[at..], &mut self.room);
+            let filled = 19 * ran.lines;
+            output.write_all(&self.room[..filled])?;
+            at += ran.used;
+        }
+        Ok(())
     }
-    Ok(())
 }
 
 // How many bytes the whole lines of a text have: those up to its last line feed.
 fn whole_length(text: &[u8]) -> usize
     ensures { Whole text.now result }
 {
-    let mut end = text.len();
-    while 0 < end {
-        if text[end - 1] == LINE_FEED {
-            return end;
-        }
-        end -= 1;
-    }
-    end
+    text.iter()
+        .rposition(|b| *b == LINE_FEED)
+        .map_or(0, |i| i + 1)
 }
 
-// Moves the bytes of an unfinished line to the front, or its first thirty, and gives how many.
-fn keep(buffer: &mut [u8], from: usize, end: usize) -> usize
-    requires { (from ≤ end) × (end ≤ length buffer.old) }
-    ensures { Moved buffer.old from end result buffer.new }
-{
-    let mut kept = 0;
-    while kept < MOST_KEPT {
-        let next = from + kept;
-        if next == end {
-            return kept;
-        }
-        buffer[kept] = buffer[next];
-        kept += 1;
-    }
-    kept
-}
-
-// Answers the whole lines of the first bytes of the buffer, and keeps the rest of those bytes.
-fn answer_whole<W: Write>(
-    output: &mut W,
-    words: &mut [u64],
-    buffer: &mut [u8],
-    room: &mut [u8],
-    end: usize,
-) -> io::Result<Next>
-    requires { T (sound_words words.old) × (19 ≤ length room.old) × (end ≤ length buffer.old) }
-    ensures sound { T (sound_words words.new) }
-    ensures kept { IfOk result (λ next. kept_of next ≤ most_kept) }
-{
-    let whole = whole_length(&buffer[..end]);
-    answer(output, words, &buffer[..whole], room)?;
-    Ok(Next::Keeps(keep(buffer, whole, end)))
-}
-
-// Reads once behind what is kept of an unfinished line, and answers the lines that are whole then. An unfinished line at
-// the input's end is a line too.
-fn turn<R: Read, W: Write>(
-    input: &mut R,
-    output: &mut W,
-    words: &mut [u64],
-    buffer: &mut [u8],
-    room: &mut [u8],
+// What is read of the input and not answered yet: an unfinished line, at the buffer's front. An array and a count, and no
+// `Vec`: the memory is fixed.
+#[derive(Drop)]
+struct Unfinished {
+    buffer: [u8; BUFFER_LENGTH],
     kept: usize,
-) -> io::Result<Next>
-    requires { T (sound_words words.old) × (19 ≤ length room.old) × (kept ≤ length buffer.old) }
-    ensures sound { T (sound_words words.new) }
-    ensures kept { IfOk result (λ next. kept_of next ≤ most_kept) }
-{
-    let more = input.read(&mut buffer[kept..])?;
-    if more == 0 {
-        answer(output, words, &buffer[..kept], room)?;
-        return Ok(Next::Ends);
+    ghost few: { kept ≤ most_kept },
+}
+
+impl Unfinished {
+    // Moves the bytes of an unfinished line to the front, or its first thirty.
+    fn keep(&mut self, from: usize, end: usize)
+        requires { (from ≤ end) × (end ≤ length self.old.buffer) }
+        ensures { Moved self.old.buffer from end self.new.kept self.new.buffer }
+    {
+        self.kept = (end - from).min(MOST_KEPT);
+        self.buffer.copy_within(from..from + self.kept, 0);
     }
-    answer_whole(output, words, buffer, room, kept + more)
+
+    // Reads once behind what is kept, and has the lines answered that are whole then. An unfinished line at the input's end
+    // is a line too. Tells whether the input may go on.
+    fn turn<R: Read, W: Write>(
+        &mut self,
+        input: &mut R,
+        output: &mut W,
+        answerer: &mut Answerer,
+    ) -> io::Result<bool>
+        ensures { IfOk result (λ more. Turned more answerer.old.words (take self.old.kept self.old.buffer)
+            (R.remaining input.old) (W.contents output.old) answerer.new.words
+            (take self.new.kept self.new.buffer) (R.remaining input.new) (W.contents output.new)) }
+    {
+        let more = input.read(&mut self.buffer[self.kept..])?;
+        if more == 0 {
+            answerer.answer(output, &self.buffer[..self.kept])?;
+            return Ok(false);
+        }
+        let end = self.kept + more;
+        let whole = whole_length(&self.buffer[..end]);
+        answerer.answer(output, &self.buffer[..whole])?;
+        self.keep(whole, end);
+        Ok(true)
+    }
 }
 
 // Takes turns to the input's end. A proved loop has to end, and nothing says that an input does: so it counts its turns
@@ -123,19 +103,17 @@ fn turn<R: Read, W: Write>(
 fn serve<R: Read, W: Write>(
     input: &mut R,
     output: &mut W,
-    words: &mut [u64],
-    buffer: &mut [u8],
-    room: &mut [u8],
+    answerer: &mut Answerer,
+    unfinished: &mut Unfinished,
 ) -> io::Result<()>
-    requires { T (sound_words words.old) × (19 ≤ length room.old) × (most_kept ≤ length buffer.old) }
-    ensures { T (sound_words words.new) }
+    ensures { OnOk result (AllAnswered answerer.old.words (take unfinished.old.kept unfinished.old.buffer)
+        (R.remaining input.old) (W.contents output.old) answerer.new.words
+        (W.contents output.new)) }
 {
-    let mut kept = 0;
     for _ in 0..u64::MAX {
-        let Next::Keeps(n) = turn(input, output, words, buffer, room, kept)? else {
+        if !unfinished.turn(input, output, answerer)? {
             return Ok(());
-        };
-        kept = n;
+        }
     }
     Ok(())
 }
@@ -143,13 +121,18 @@ fn serve<R: Read, W: Write>(
 fn main(rt: HostRuntime) -> io::Result<()> {
     let mut words = [0u64; 1410];
     ends::fresh(&mut words);
-    let mut buffer = [0u8; BUFFER_LENGTH];
-    let mut room = [0u8; BUFFER_LENGTH];
+    let mut answerer = Answerer {
+        words,
+        room: [0; BUFFER_LENGTH],
+    };
+    let mut unfinished = Unfinished {
+        buffer: [0; BUFFER_LENGTH],
+        kept: 0,
+    };
     serve(
         &mut rt.stdin(),
         &mut rt.stdout(),
-        &mut words,
-        &mut buffer,
-        &mut room,
+        &mut answerer,
+        &mut unfinished,
     )
 }

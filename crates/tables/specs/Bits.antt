@@ -1,13 +1,16 @@
 -- Words under the code's `&` and `|`: what a set holds that `&` gives, when `&` leaves a set as it is, and when `|` of
 -- words is 0.
--- Rests on the rules' Sets and on basics. Assumes nothing.
-use Rattle.std.specs.Prelude.{◌≡◌, refl, ◌&&◌, ◌↔◌, ℕ, zero, suc, ◌+◌, ◌/◌, ◌%◌, ◌^◌, ◌≤◌, ◌<◌, min, T, eqb}
-use Rattle.std.proofs.Common.{ap, sym, ◌∙◌, subst, arith, below_more}
+-- Rests on the rules' Sets and Layout, on basics, Tells and Test. Assumes nothing.
+use Rattle.std.specs.Prelude.{◌≡◌, refl, ◌&&◌, ◌↔◌, List, [], ◌∷◌, ℕ, zero, suc, ◌+◌, ◌-◌, ◌/◌, ◌%◌, ◌^◌, ◌≤◌, ◌<◌, min, T, eqb, length, take, drop, fold}
+use Rattle.std.proofs.Common.{ap, sym, ◌∙◌, subst, not-suc-le-zero, arith, below_more, length-take-le, length-drop, get_or-take, get_or-drop}
 use Rattle.std.specs.Int.Bits.{bit_and, bit_or, and_step, and_lt, or_add_and}
 use Rattle.std.proofs.lemmas.Nat.{and_shr, and_le_l, and_le_r}
 use Rattle.rules.specs.Sets.{width, has}
+use Rattle.rules.specs.Layout.{word}
 use Rattle.basics.specs.Logic.{and_says, same_test}
 use Rattle.basics.specs.Sets.{same_set}
+use Rattle.tables.specs.Tells.{Tells, tells_as, tells_equal}
+use Rattle.tables.specs.Test.{AllZero}
 
 last_bit : (a b : ℕ) → bit_and a b % 2 ≡ min (a % 2) (b % 2)
 last_bit a b = omega (arith, and_step a b)
@@ -66,3 +69,43 @@ module _ (w : ℕ → ℕ) (n : ℕ) where
         below_more (λ k. n ≤ k → w k ≡ 0) i (g.0 z.0) (λ l. z.1),
     λ f. (or_zero all (w i)).1 (g.1 (λ k l. f k (omega arith)), f i (omega arith) h),
   )
+
+-- what is gathered of a whole list is 0 exactly where each of its words is
+more_zero : (w : ℕ) (ws : List ℕ) → w ≡ 0 → AllZero ws → AllZero (w ∷ ws)
+more_zero w ws e z zero h = e
+more_zero w ws e z (suc i) h = z i (omega arith)
+
+gathers : (ws : List ℕ) (all : ℕ) → (fold bit_or all ws ≡ 0) ↔ ((all ≡ 0) × AllZero ws)
+gathers [] all = (λ e. (e, λ i h. absurd (not-suc-le-zero h)), λ z. z.0)
+gathers (w ∷ ws) all = (
+  λ e.
+      let z = (gathers ws (bit_or all w)).0 e in
+      let both = (or_zero all w).0 z.0 in
+      (both.0, more_zero w ws both.1 z.1),
+  λ z. (gathers ws (bit_or all w)).1 ((or_zero all w).1 (z.0, z.1 0 (omega arith)), λ i h. z.1 (suc i) (omega arith)),
+)
+
+pub tells_gathered : (ws : List ℕ) (all : ℕ) → all ≡ fold bit_or 0 ws → Tells (eqb all 0) (AllZero ws)
+tells_gathered ws all e =
+    tells_as (eqb all 0) (tells_equal all 0) (λ z. ((gathers ws 0).0 (sym e ∙ z)).1) (λ z. e ∙ (gathers ws 0).1 (refl, z))
+
+-- of a run of m words, those from the n-th on are 0 exactly where each of that part is
+pub rest_zero : (ws : List ℕ) (at n m : ℕ) → at + m ≤ length ws
+    → AllZero (take (at + m - (at + n)) (drop (at + n) ws)) ↔ ((i : ℕ) → i < m → n ≤ i → word ws (at + i) ≡ 0)
+rest_zero ws at n m room = (
+  λ z i h k.
+      let b : i - n < at + m - (at + n) = omega arith in
+      let e = read (i - n) b in
+      let there : at + n + (i - n) ≡ at + i = omega arith in
+      ap (word ws) (sym there) ∙ sym e ∙ z (i - n) (omega (arith, size)),
+  λ f i h.
+      let b : i < at + m - (at + n) = omega (arith, size) in
+      let there : at + n + i ≡ at + (n + i) = omega arith in
+      read i b ∙ ap (word ws) there ∙ f (n + i) (omega arith) (omega arith),
+)
+  where
+    size : length (take (at + m - (at + n)) (drop (at + n) ws)) ≡ at + m - (at + n)
+    size = length-take-le (at + m - (at + n)) (drop (at + n) ws) (rw length-drop (omega arith))
+
+    read : (i : ℕ) → i < at + m - (at + n) → word (take (at + m - (at + n)) (drop (at + n) ws)) i ≡ word ws (at + n + i)
+    read i h = get_or-take (at + m - (at + n)) (drop (at + n) ws) i 0 h ∙ get_or-drop (at + n) ws i 0

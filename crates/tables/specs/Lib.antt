@@ -3,6 +3,7 @@ pub mod Tells
 pub mod Highest
 pub mod Index
 pub mod Test
+pub mod Parted
 pub mod Seats
 pub mod Standing
 pub mod Bits

@@ -1,14 +1,19 @@
 -- What the code tests, word by word: of a record, of a place, of an object and its chain's entries. Told.antt says that
 -- words which pass are the sound ones.
 -- Rests on the rules' Layout, on Tells and on Index.
-use Rattle.std.specs.Prelude.{◌≡◌, Bool, true, false, not, cond, List, ℕ, zero, suc, ◌+◌, ◌*◌, ◌^◌, ◌≤◌, ◌<◌, T, eqb, length}
+use Rattle.std.specs.Prelude.{◌≡◌, Bool, true, false, not, cond, List, ℕ, zero, suc, ◌+◌, ◌*◌, ◌^◌, ◌≤◌, ◌<◌, T, eqb, length, Option, Some, None}
 use Rattle.std.specs.Int.Bits.{bit_and}
 use Rattle.rules.specs.Tests.{lowest}
 use Rattle.rules.specs.Sets.{width, has, collect}
 use Rattle.rules.specs.Tables.{chain_room, log_room, place_count, object_count, last_number}
 use Rattle.rules.specs.Layout.{next_at, log_count_at, number_at, accessed_at, written_at, prepared_at, depends_at, stable_value_at, stable_writer_at, stable_number_at, holder_at, working_at, saved_count_at, queued_count_at, chain_value_at, chain_writer_at, word_count, word}
-use Rattle.tables.specs.Tells.{Tells}
-use Rattle.tables.specs.Index.{key, number_among, Index}
+use Rattle.calls.specs.declared.existing.Place.{Place}
+use Rattle.tables.specs.declared.stands.Record.{Record}
+use Rattle.tables.specs.Index.{key, number_among}
+
+-- every word is 0
+abbrev pub AllZero : List ℕ → Type 0
+AllZero ws = (i : ℕ) → i < length ws → word ws i ≡ 0
 
 -- ---- the log
 
@@ -184,26 +189,14 @@ pub record RestTest (ws : List ℕ) : Type 0 where
   pub places : PlacesTest ws
   pub objects : ObjectsTest ws
 
--- ---- what the functions ask of their arguments
+-- ---- what the functions ask of their arguments, and what they find
 
--- the right count of words, and the index of the first n records
-pub record Indexed (ws : List ℕ) (n : ℕ) (head before : List ℕ) : Type 0 where
-  pub right_length : length ws ≡ word_count
-  pub count_fits : n ≤ log_room
-  pub index : Index ws n head before
+-- the record found has the log number, and none is found where that is 0
+abbrev pub IsRecord : Option Record → ℕ → Type 0
+IsRecord None n = n ≡ 0
+IsRecord (Some r) n = r.number.num ≡ n
 
--- a test's answer, and where it is true the index of the first n records
-pub record Indexing (answer : Bool) (Fact : Type 0) (ws : List ℕ) (n : ℕ) (head before : List ℕ) : Type 0 where
-  pub tells : Tells answer Fact
-  pub indexed : T answer → Indexed ws n head before
-
--- and no transaction of a place is logged
-pub record Parted (ws head before : List ℕ) : Type 0 where
-  pub indexed : Indexed ws (count_in ws) head before
-  pub unlogged : Unlogged ws
-
--- the set of used places, and a place
-pub record AtPlace (ws head before : List ℕ) (used p : ℕ) : Type 0 where
-  pub indexed : Indexed ws (count_in ws) head before
-  pub used_set : used ≡ used_in ws
-  pub below : p < place_count
+-- the place found is the seat, and none is found where that is 32
+abbrev pub IsSeat : Option Place → ℕ → Type 0
+IsSeat None s = s ≡ place_count
+IsSeat (Some p) s = p.num ≡ s

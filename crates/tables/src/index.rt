@@ -1,17 +1,24 @@
-// An index of the log by transaction number. The records are parted into buckets by their number's remainder; `head` has
-// for each bucket one more than its last record's place, `before` for each record the same of the one before it in its
-// bucket, and 0 stands for none.
-ghost use Rattle.std.specs.Prelude.{◌≡◌, ◌+◌, ◌<◌};
+// An index of the log by transaction number. The records are parted into buckets by their number's remainder.
+ghost use Rattle.std.specs.Prelude.{◌≡◌, ◌+◌, ◌<◌, length};
 ghost use Rattle.rules.specs.Tables.{log_room};
-ghost use Rattle.tables.specs.Index.{bucket_of, number_among};
-ghost use Rattle.tables.specs.Test.{count_in, number_in, Indexed};
+ghost use Rattle.rules.specs.Layout.{word_count};
+ghost use Rattle.tables.specs.Index.{bucket_of, number_among, IndexOf};
+ghost use Rattle.tables.specs.Test.{number_in, IsRecord};
 
+use crate::stands::Record;
 use calls::{Lsn, Txn};
 
-// The index: of each bucket its last record, of each record the one before it in its bucket.
-pub type Heads = [u16; 1024];
-
-pub type Befores = [u16; 512];
+// The first `count` records of the words. Of each bucket one more than its last record's place, and of each record the same of
+// the one before it in its bucket. 0 stands for none, and no Option: one of a `u16` would double the words that each test of
+// the tables clears.
+#[derive(Drop)]
+pub struct Index<'a> {
+    pub words: &'a [u64],
+    pub count: usize,
+    head: [u16; 1024],
+    before: [u16; 512],
+    ghost indexed: { IndexOf words.now count head before },
+}
 
 // The bucket of a transaction number.
 fn bucket(x: Txn) -> usize
@@ -20,42 +27,61 @@ fn bucket(x: Txn) -> usize
     (x.num % 1024) as usize
 }
 
-// Puts the next record into the index.
-pub fn insert(words: &[u64], head: &mut Heads, before: &mut Befores, i: usize)
-    requires { Indexed words.now i head.old before.old × (i < log_room) }
-    ensures { Indexed words.now (i + 1) head.new before.new }
-{
-    let x = Txn {
-        num: words[layout::LOG + i],
-    };
-    let b = bucket(x);
-    before[i] = head[b];
-    head[b] = (i + 1) as u16;
-}
+impl<'a> Index<'a> {
+    ghost use Rattle.tables.specs.Parted.{Full, Indexed};
 
-// The log number of a transaction among the first `count` records, or 0 where none names it: down its bucket from the
-// last record. `count` serves the contract alone, which has to say of which records the index is.
-pub fn find(words: &[u64], head: &Heads, before: &Befores, count: usize, x: Txn) -> Lsn
-    requires { Indexed words.now count head.now before.now }
-    ensures { result.num ≡ number_among words.now count x.num }
-{
-    let b = bucket(x);
-    let mut at = head[b] as usize;
-    while at > 0 {
-        // Record `at` is the word before LOG + at.
-        if words[at + 1] == x.num {
-            return Lsn { num: at as u64 };
+    // The index of no records.
+    pub fn of(words: &'a [u64]) -> Index<'a>
+        requires { length words.now ≡ word_count }
+        ensures { Indexed words.now 0 result }
+    {
+        Index {
+            words,
+            count: 0,
+            head: [0; 1024],
+            before: [0; 512],
         }
-        at = before[at - 1] as usize;
     }
-    Lsn { num: 0 }
-}
 
-// The log number of a transaction, or 0 where it is not logged.
-pub fn number(words: &[u64], head: &Heads, before: &Befores, x: Txn) -> Lsn
-    requires { Indexed words.now (count_in words.now) head.now before.now }
-    ensures { result.num ≡ number_in words.now x.num }
-{
-    let count = words[layout::LOG_COUNT] as usize;
-    find(words, head, before, count, x)
+    // Puts the next record into the index.
+    pub fn insert(&mut self)
+        requires { self.old.count < log_room }
+        ensures { Indexed self.old.words.now (self.old.count + 1) self.new }
+    {
+        let i = self.count;
+        let x = Txn {
+            num: self.words[layout::LOG + i],
+        };
+        let b = bucket(x);
+        self.before[i] = self.head[b];
+        self.head[b] = (i + 1) as u16;
+        self.count = i + 1;
+    }
+
+    // The record in the index that names a transaction, down its bucket from the last record.
+    pub fn find(&self, x: Txn) -> Option<Record>
+        ensures { IsRecord result (number_among self.now.words.now self.now.count x.num) }
+    {
+        let words = self.words;
+        let b = bucket(x);
+        let mut at = self.head[b] as usize;
+        // Along links, so no `for`.
+        while at > 0 {
+            // Record `at` is the word before LOG + at.
+            if words[at + 1] == x.num {
+                let number = Lsn { num: at as u64 };
+                return Some(Record { number });
+            }
+            at = self.before[at - 1] as usize;
+        }
+        None
+    }
+
+    // The record that names a transaction.
+    pub fn logged(&self, x: Txn) -> Option<Record>
+        requires { Full self.now }
+        ensures { IsRecord result (number_in self.now.words.now x.num) }
+    {
+        self.find(x)
+    }
 }

@@ -1,4 +1,5 @@
-// The test of lent words: whether they hold sound tables.
+// The test of lent words: whether they hold sound tables. The words are the lent slice, as document 01 names it, so their length
+// is a clause; what a standing says is said of certain words, so that is a clause too and no field.
 #![tactic(auto)]
 
 ghost use Rattle.std.specs.Prelude.{◌≡◌};
@@ -10,28 +11,30 @@ mod index;
 mod log;
 mod objects;
 mod places;
+mod stands;
+
+use index::Index;
+
+// Whether there are as many words as there should be, and the next number and the count of records are in range.
+fn counts_sound(words: &[u64]) -> bool
+    ensures { Tells result (CountsTest words.now) }
+{
+    words.len() == layout::WORDS
+        && words[layout::NEXT] > 0
+        && words[layout::NEXT] <= 1000000
+        && words[layout::LOG_COUNT] <= 512
+}
 
 // Whether the log, the places and the objects are sound, for words of the right count whose counts are in range.
 fn rest_sound(words: &[u64]) -> bool
     requires { CountsTest words.now }
     ensures { Tells result (RestTest words.now) }
 {
-    let mut head = [0u16; 1024];
-    let mut before = [0u16; 512];
-    let count = words[layout::LOG_COUNT] as usize;
-    if !log::records_sound(words, &mut head, &mut before, count) {
-        return false;
-    }
-    if !log::past_zero(words, count) {
-        return false;
-    }
-    if !places::places_sound(words, &head, &before) {
-        return false;
-    }
-    if !objects::objects_sound(words, &head, &before) {
-        return false;
-    }
-    true
+    let mut index = Index::of(words);
+    log::records_sound(words, &mut index)
+        && log::past_zero(words)
+        && places::places_sound(&index)
+        && objects::objects_sound(&index)
 }
 
 // Whether the words hold sound tables. Linear in the words: an index of the log by number answers what each chain entry
@@ -39,17 +42,5 @@ fn rest_sound(words: &[u64]) -> bool
 pub fn sound(words: &[u64]) -> bool
     ensures { result ≡ sound_words words.now }
 {
-    if words.len() != layout::WORDS {
-        return false;
-    }
-    if words[layout::NEXT] == 0 {
-        return false;
-    }
-    if words[layout::NEXT] > 1000000 {
-        return false;
-    }
-    if words[layout::LOG_COUNT] > 512 {
-        return false;
-    }
-    rest_sound(words)
+    counts_sound(words) && rest_sound(words)
 }

@@ -1,70 +1,58 @@
 // The test of the log: its records, and the words past them.
-ghost use Rattle.std.specs.Prelude.{◌≡◌, ◌+◌, ◌≤◌, ◌<◌, length};
+ghost use Rattle.std.specs.Prelude.{◌≡◌, ◌+◌, ◌≤◌, ◌<◌, length, T};
 ghost use Rattle.rules.specs.Tables.{log_room};
 ghost use Rattle.rules.specs.Layout.{word_count};
 ghost use Rattle.tables.specs.Tells.{Tells};
-ghost use Rattle.tables.specs.Test.{count_in, Indexed, Indexing, RecordTest, RecordsTest, PastLog};
+ghost use Rattle.tables.specs.Test.{AllZero, count_in, RecordTest, RecordsTest, PastLog};
+ghost use Rattle.tables.specs.Parted.{Indexed};
 
-use crate::index;
-use calls::Txn;
+use crate::index::Index;
+use calls::{NOBODY, Txn};
 
-// Whether a record's transaction was given out and no earlier record names it; a sound record goes into the index.
-fn record_sound(
-    words: &[u64],
-    head: &mut index::Heads,
-    before: &mut index::Befores,
-    i: usize,
-) -> bool
-    requires { Indexed words.now i head.old before.old × (i < log_room) }
-    ensures { Indexing result (RecordTest words.now i) words.now (i + 1) head.new before.new }
+// Whether the next record's transaction was given out and no earlier record names it; a sound record goes into the index. The
+// words come beside the index that has them: read out of it for each record, a call on a full log takes a third longer.
+fn record_sound(words: &[u64], index: &mut Index) -> bool
+    requires { (index.old.words.now ≡ words.now) × (index.old.count < log_room) }
+    ensures says { Tells result (RecordTest words.now index.old.count) }
+    ensures indexed { T result → Indexed words.now (index.old.count + 1) index.new }
 {
     let x = Txn {
-        num: words[layout::LOG + i],
+        num: words[layout::LOG + index.count],
     };
-    if x.num == 0 {
-        return false;
+    let sound = x != NOBODY && x.num < words[layout::NEXT] && index.find(x).is_none();
+    if sound {
+        index.insert();
     }
-    if words[layout::NEXT] <= x.num {
-        return false;
-    }
-    let found = index::find(words, head, before, i, x);
-    if found.num != 0 {
-        return false;
-    }
-    index::insert(words, head, before, i);
-    true
+    sound
 }
 
 // Whether every record is sound, by an index that each goes into once it is tested.
-pub fn records_sound(
-    words: &[u64],
-    head: &mut index::Heads,
-    before: &mut index::Befores,
-    count: usize,
-) -> bool
-    requires { Indexed words.now 0 head.old before.old × (count ≡ count_in words.now) × (count ≤ log_room) }
-    ensures { Indexing result (RecordsTest words.now) words.now count head.new before.new }
+pub fn records_sound(words: &[u64], index: &mut Index) -> bool
+    requires { Indexed words.now 0 index.old × (count_in words.now ≤ log_room) }
+    ensures says { Tells result (RecordsTest words.now) }
+    ensures indexed { T result → Indexed words.now (count_in words.now) index.new }
 {
-    let mut i = 0;
-    while i < count {
-        if !record_sound(words, head, before, i) {
+    let count = words[layout::LOG_COUNT] as usize;
+    for _ in 0..count {
+        if !record_sound(words, index) {
             return false;
         }
-        i += 1;
     }
     true
 }
 
-// Whether the words past the last record are 0. They are gathered and tested once, so that several go at a time.
-pub fn past_zero(words: &[u64], count: usize) -> bool
-    requires { (length words.now ≡ word_count) × (count ≡ count_in words.now) × (count ≤ log_room) }
+// Whether each of the words is 0. They are gathered and tested once, so that several go at a time.
+fn all_zero(words: &[u64]) -> bool
+    ensures { Tells result (AllZero words.now) }
+{
+    words.iter().fold(0, |all, w| all | *w) == 0
+}
+
+// Whether the words past the last record are 0.
+pub fn past_zero(words: &[u64]) -> bool
+    requires { (length words.now ≡ word_count) × (count_in words.now ≤ log_room) }
     ensures { Tells result (PastLog words.now) }
 {
-    let mut all: u64 = 0;
-    let mut i = count;
-    while i < layout::LOG_ROOM {
-        all |= words[layout::LOG + i];
-        i += 1;
-    }
-    all == 0
+    let count = words[layout::LOG_COUNT] as usize;
+    all_zero(&words[layout::LOG + count..layout::LOG + layout::LOG_ROOM])
 }

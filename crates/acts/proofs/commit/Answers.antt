@@ -7,12 +7,9 @@ use Rattle.words_laws.specs.Words.{sound_words_say}
 use Rattle.lookups.proofs.Fitting.{fitting}
 use Rattle.acts.proofs.commit.Goals as goal
 
-pub bounds-words-1 : goal.bounds-words-1
-bounds-words-1 c = omega (arith, fitting c.args.words.now c.requires.0)
-
 pub overflow_add-number : goal.overflow_add-number
 overflow_add-number c = omega (arith, fitting c.args.words.now c.requires.0)
 
-pub returns : goal.returns
-returns c = let ws = c.args.words.now in
-    (ap lsn (add-one (word ws log_count_at) ∙ ap suc (sound_words_say ws c.requires.0).log_count), c.commit.ensures)
+pub returns-clause-given : goal.returns-clause-given
+returns-clause-given c = let ws = c.args.words.now in
+    ap lsn (add-one (word ws log_count_at) ∙ ap suc (sound_words_say ws c.requires.0).log_count)

@@ -1,14 +1,15 @@
 -- `acts::decide` meets its contract: the call is the one that its used fields make, and each arm refuses that.
 -- Assumes nothing.
-use Rattle.std.proofs.Common.{◌≡◌, refl, ap, [], ℕ}
-use Rattle.rules.specs.Tables.{obj}
-use Rattle.rules.specs.Answers.{is_abort, is_restart, order}
+use Rattle.std.proofs.Common.{◌≡◌, refl, ap, []}
+use Rattle.std.proofs.Math.Option.{none}
+use Rattle.rules.specs.Answers.{is_restart, order}
 use Rattle.rules.specs.Frames.{fields_of}
-use Rattle.decisions.specs.Orders.{living}
 use Rattle.calls.specs.declared.Kind.{Kind}
-use Rattle.calls.specs.Meaning.{kind_of, call_of}
-use Rattle.refusals.specs.declared.Why.{Why}
-use Rattle.refusals.specs.declared.Why.TheVariants.{Done}
+use Rattle.lent.specs.Held.{held}
+use Rattle.calls.specs.Calls.{call_of}
+use Rattle.calls.specs.Meaning.{kind_of}
+use Rattle.std.specs.Prelude.{Result, Ok}
+use Rattle.calls.specs.declared.Refusal.{Refusal}
 use Rattle.refusals.specs.Reasons.{asking, Refuses}
 use Rattle.refusals.proofs.Deciding.{no_reason, decides}
 use Rattle.acts.proofs.Asked.{of_kind, bare, refused_as}
@@ -16,10 +17,10 @@ use Rattle.acts.proofs.decide.Goals.{Start}
 use Rattle.acts.proofs.decide.Goals as goal
 
 -- the call's kind is the arm's
-for : (c : Start) {k : Kind} → c.args.c.kind ≡ k → (w : Why)
-    → Refuses c.args.words.now (bare (fields_of (kind_of k)) (of_kind (kind_of k) (call_of c.args.c))) w
-    → Refuses c.args.words.now (call_of c.args.c) w
-for c {k} e w h = refused_as c.args.words.now (call_of c.args.c) (kind_of k) w (ap kind_of e) c.requires.1 h
+for : (c : Start) {k : Kind} → c.args.c.kind ≡ k → (w : Result Unit Refusal)
+    → Refuses (held c.args.t.now) (bare (fields_of (kind_of k)) (of_kind (kind_of k) (call_of c.args.c))) w
+    → Refuses (held c.args.t.now) (call_of c.args.c) w
+for c {k} e w h = refused_as (held c.args.t.now) (call_of c.args.c) (kind_of k) w (ap kind_of e) c.args.c.unused h
 
 pub returns-in-Start : goal.returns-in-Start
 unfolding fields_of
@@ -42,7 +43,7 @@ returns-in-Prepare c = for (goal.at.returns-in-Prepare c).Start c.in-Prepare.is 
 pub returns-in-Save : goal.returns-in-Save
 unfolding fields_of
 returns-in-Save c = let start : Start = (goal.at.returns-in-Save c).Start in
-    for start c.in-Save.is c.of_object.result (c.of_object.ensures c.args.words.now c.requires.0).0
+    for start c.in-Save.is c.of_object.result (c.of_object.ensures c.args.t.now.words.now c.args.t.now.sound).0
 
 pub returns-in-Commit : goal.returns-in-Commit
 unfolding fields_of
@@ -51,27 +52,24 @@ returns-in-Commit c = for (goal.at.returns-in-Commit c).Start c.in-Commit.is c.o
 pub returns-in-Abort : goal.returns-in-Abort
 unfolding fields_of order
 returns-in-Abort c = let start : Start = (goal.at.returns-in-Abort c).Start in
-    let x : ℕ = c.args.c.who.num in
-    for start c.in-Abort.is c.of_transaction.result
-    (decides c.args.words.now (asking is_abort x 0 0) living c.requires.0 refl c.of_transaction.result
-    (c.of_transaction.ensures.first_of is_abort (obj 0) 0))
+    for start c.in-Abort.is c.of_abort.result c.of_abort.ensures
 
 pub returns-in-Settle : goal.returns-in-Settle
 unfolding fields_of
 returns-in-Settle c = let start : Start = (goal.at.returns-in-Settle c).Start in
-    for start c.in-Settle.is c.of_object-in-Settle.result (c.of_object-in-Settle.ensures c.args.words.now c.requires.0).1
+    for start c.in-Settle.is c.of_object-in-Settle.result (c.of_object-in-Settle.ensures c.args.t.now.words.now c.args.t.now.sound).1
 
 pub returns-in-Crash : goal.returns-in-Crash
 unfolding fields_of
 returns-in-Crash c = let start : Start = (goal.at.returns-in-Crash c).Start in
-    for start c.in-Crash.is c.of_set.result (c.of_set.ensures c.args.words.now c.requires.0)
+    for start c.in-Crash.is c.of_set.result (c.of_set.ensures c.args.t.now.words.now c.args.t.now.sound)
 
 pub returns-in-Restart : goal.returns-in-Restart
 unfolding fields_of order
 returns-in-Restart c = let start : Start = (goal.at.returns-in-Restart c).Start in
-    for start c.in-Restart.is Done
-    (decides c.args.words.now (asking is_restart 0 0 0) [] c.requires.0 refl Done
-    (no_reason c.args.words.now (asking is_restart 0 0 0) [] tt))
+    for start c.in-Restart.is (Ok tt)
+    (decides c.args.t.now.words.now (asking is_restart 0 0 0) [] c.args.t.now.sound refl none
+    (no_reason c.args.t.now.words.now (asking is_restart 0 0 0) [] tt))
 
 pub returns-in-Status : goal.returns-in-Status
 unfolding fields_of
@@ -80,4 +78,4 @@ returns-in-Status c = for (goal.at.returns-in-Status c).Start c.in-Status.is c.o
 pub returns-in-Look : goal.returns-in-Look
 unfolding fields_of
 returns-in-Look c = let start : Start = (goal.at.returns-in-Look c).Start in
-    for start c.in-Look.is c.of_object-in-Look.result (c.of_object-in-Look.ensures c.args.words.now c.requires.0).2
+    for start c.in-Look.is c.of_object-in-Look.result (c.of_object-in-Look.ensures c.args.t.now.words.now c.args.t.now.sound).2

@@ -1,19 +1,24 @@
 -- `acts::give` meets its contract: since no fact refuses the call, each step may be taken, and it gives and leaves what the
 -- rules say of its kind.
 -- Assumes nothing.
+use Rattle.std.specs.Prelude.{IsSome}
 use Rattle.std.proofs.Common.{◌≡◌, refl, ap, sym, ◌∙◌, List, ℕ, ◌<◌, arith, T}
-use Rattle.rules.specs.Tables.{Txn, Lsn, Tables, object_count, place_count, place_of, is_live}
+use Rattle.rules.specs.Tables.{Txn, Lsn, Tables, object_count, place_of, is_live}
 use Rattle.rules.specs.Falls.{fallen, how_many}
 use Rattle.rules.specs.Steps.{undo, abort, fall_count, look}
-use Rattle.rules.specs.Answers.{Kind, is_start, is_read, is_write, is_prepare, is_save, is_commit, is_abort, is_settle, is_crash, is_look, Call, done_value, done_leaves}
+use Rattle.rules.specs.Answers.{Kind, is_look, Call, done_value, done_leaves}
 use Rattle.rules.specs.Layout.{pack, unpack}
 use Rattle.words_laws.specs.Says.{stable_value}
 use Rattle.words_laws.specs.Words.{sound_words_say, words_again}
+use Rattle.lookups.proofs.Fitting.{words_length}
+use Rattle.sound_laws.specs.Access.{MayAccess}
 use Rattle.sound_laws.specs.Means.{Sound}
+use Rattle.calls.specs.declared.existing.Live.{Live}
 use Rattle.calls.specs.declared.Kind as calls
-use Rattle.calls.specs.Meaning.{kind_of, call_of}
-use Rattle.lookups.proofs.Fitting.{fitting}
-use Rattle.lookups.proofs.Living.{there_live, below_live}
+use Rattle.calls.specs.Calls.{call_of}
+use Rattle.calls.specs.Meaning.{kind_of, IsLive}
+use Rattle.lookups.specs.Places.{seat_number}
+use Rattle.lookups.proofs.Living.{placed_somewhere, there_live, below_live}
 use Rattle.acts.specs.Acted.{Did}
 use Rattle.acts.proofs.Accessed.{sound_in}
 use Rattle.acts.proofs.Allowed.{start_may, read_may, write_may, prepare_object, prepare_live, prepare_room, save_object, commit_live, commit_room, abort_live, settle_object, crash_set, look_object}
@@ -42,69 +47,106 @@ for : (c : Start) {k : calls.Kind} → c.args.c.kind ≡ k → {r : ℕ} {vs : L
 for c {k} e {r} {vs} = did c.args.words.now (asked c) (kind_of k) (ap kind_of e) r vs
 
 -- where the transaction is live, the place is one
-at_place : (c : Start) → T (is_live (tables c).live (asked c).who) → c.args.p < place_count
-at_place c = below_live (tables c).live (asked c).who c.args.p c.requires.2
+at_place : (c : Start) → T (is_live (tables c).live (asked c).who) → IsSome c.args.seat
+at_place c l =
+    placed_somewhere c.args.seat (below_live (tables c).live (asked c).who (seat_number c.args.seat) c.requires.2 l)
 
-there : (c : Start) → T (is_live (tables c).live (asked c).who) → c.args.p ≡ place_of (tables c).live (asked c).who
-there c = there_live (tables c).live (asked c).who c.args.p c.requires.2
+there : (c : Start) → T (is_live (tables c).live (asked c).who) → seat_number c.args.seat ≡ place_of (tables c).live (asked c).who
+there c = there_live (tables c).live (asked c).who (seat_number c.args.seat) c.requires.2
 
 looked : (c : Start) → kind c ≡ is_look → (asked c).what.num < object_count
 looked c e = look_object (tables c) (asked c) (sound_at c) e c.requires.1
 
+-- and it is live there
+placed : (c : Start) (l : Live) → l.who ≡ c.args.c.who → l.place.num ≡ seat_number c.args.seat → T (is_live (tables c).live (asked c).who)
+    → IsLive (tables c) l
+placed c l who place live = rw (who, place) (live, there c live)
+
 pub start-requires : goal.start-requires
 start-requires c = let start : Start = (goal.at.start-requires c).Start in
-    let e : kind start ≡ is_start = ap kind_of c.in-Start.is in
-    let may = start_may (tables start) (asked start) e c.requires.1 in
+    let may = start_may (tables start) (asked start) (ap kind_of c.in-Start.is) c.requires.1 in
     (c.requires.0, may.0, may.1)
+
+-- what read, write, prepare, commit and abort may do
+reading : (c : Start) → c.args.c.kind ≡ calls.TheVariants.Read → MayAccess (tables c) (asked c).who (asked c).what.num
+reading c e = read_may (tables c) (asked c) (sound_at c) (ap kind_of e) c.requires.1
+
+writing : (c : Start) → c.args.c.kind ≡ calls.TheVariants.Write → MayAccess (tables c) (asked c).who (asked c).what.num
+writing c e = write_may (tables c) (asked c) (sound_at c) (ap kind_of e) c.requires.1
+
+preparing : (c : Start) → c.args.c.kind ≡ calls.TheVariants.Prepare → T (is_live (tables c).live (asked c).who)
+preparing c e = prepare_live (tables c) (asked c) (ap kind_of e) c.requires.1
+
+committing : (c : Start) → c.args.c.kind ≡ calls.TheVariants.Commit → T (is_live (tables c).live (asked c).who)
+committing c e = commit_live (tables c) (asked c) (ap kind_of e) c.requires.1
+
+aborting : (c : Start) → c.args.c.kind ≡ calls.TheVariants.Abort → T (is_live (tables c).live (asked c).who)
+aborting c e = abort_live (tables c) (asked c) (ap kind_of e) c.requires.1
+
+pub live-requires : goal.live-requires
+live-requires c = let start : Start = (goal.at.live-requires c).Start in at_place start (reading start c.in-Read.is).live
+
+pub invariant_of-read : goal.invariant_of-read
+invariant_of-read c = record { exists = (reading (goal.at.invariant_of-read c).Start c.in-Read.is).below }
 
 pub read-requires : goal.read-requires
 read-requires c = let start : Start = (goal.at.read-requires c).Start in
-    let e : kind start ≡ is_read = ap kind_of c.in-Read.is in
-    let may = read_may (tables start) (asked start) (sound_at start) e c.requires.1 in
-    (c.requires.0, may, there start may.live)
+    let may = reading start c.in-Read.is in
+    let here = c.live.ensures in
+    (c.requires.0, rw here.who may, placed start c.live.result here.who here.place may.live)
+
+pub live-requires-in-Write : goal.live-requires-in-Write
+live-requires-in-Write c = let start : Start = (goal.at.live-requires-in-Write c).Start in at_place start (writing start c.in-Write.is).live
+
+pub invariant_of-write : goal.invariant_of-write
+invariant_of-write c = record { exists = (writing (goal.at.invariant_of-write c).Start c.in-Write.is).below }
 
 pub write-requires : goal.write-requires
 write-requires c = let start : Start = (goal.at.write-requires c).Start in
-    let e : kind start ≡ is_write = ap kind_of c.in-Write.is in
-    let may = write_may (tables start) (asked start) (sound_at start) e c.requires.1 in
-    (c.requires.0, may, there start may.live)
+    let may = writing start c.in-Write.is in
+    let here = c.live-in-Write.ensures in
+    (c.requires.0, rw here.who may, placed start c.live-in-Write.result here.who here.place may.live)
+
+pub live-requires-in-Prepare : goal.live-requires-in-Prepare
+live-requires-in-Prepare c = let start : Start = (goal.at.live-requires-in-Prepare c).Start in at_place start (preparing start c.in-Prepare.is)
+
+pub invariant_of-prepare : goal.invariant_of-prepare
+invariant_of-prepare c = let start : Start = (goal.at.invariant_of-prepare c).Start in
+    record { exists = prepare_object (tables start) (asked start) (sound_at start) (ap kind_of c.in-Prepare.is) c.requires.1 }
 
 pub prepare-requires : goal.prepare-requires
 prepare-requires c = let start : Start = (goal.at.prepare-requires c).Start in
-    let e : kind start ≡ is_prepare = ap kind_of c.in-Prepare.is in
-    let live = prepare_live (tables start) (asked start) e c.requires.1 in (
+    let here = c.live-in-Prepare.ensures in (
       c.requires.0,
-      prepare_object (tables start) (asked start) (sound_at start) e c.requires.1,
-      live,
-      there start live,
-      prepare_room (tables start) (asked start) e c.requires.1,
+      placed start c.live-in-Prepare.result here.who here.place (preparing start c.in-Prepare.is),
+      rw here.who (prepare_room (tables start) (asked start) (ap kind_of c.in-Prepare.is) c.requires.1),
     )
 
-pub save-requires : goal.save-requires
-save-requires c = let start : Start = (goal.at.save-requires c).Start in
-    let e : kind start ≡ is_save = ap kind_of c.in-Save.is in
-    (c.requires.0, save_object (tables start) (asked start) (sound_at start) e c.requires.1)
+pub invariant_of-save : goal.invariant_of-save
+invariant_of-save c = let start : Start = (goal.at.invariant_of-save c).Start in
+    record { exists = save_object (tables start) (asked start) (sound_at start) (ap kind_of c.in-Save.is) c.requires.1 }
+
+pub live-requires-in-Commit : goal.live-requires-in-Commit
+live-requires-in-Commit c = let start : Start = (goal.at.live-requires-in-Commit c).Start in at_place start (committing start c.in-Commit.is)
 
 pub commit-requires : goal.commit-requires
 commit-requires c = let start : Start = (goal.at.commit-requires c).Start in
-    let e : kind start ≡ is_commit = ap kind_of c.in-Commit.is in
-    let live = commit_live (tables start) (asked start) e c.requires.1 in
-    (c.requires.0, live, there start live, commit_room (tables start) (asked start) e c.requires.1)
+    let here = c.live-in-Commit.ensures in (
+      c.requires.0,
+      placed start c.live-in-Commit.result here.who here.place (committing start c.in-Commit.is),
+      commit_room (tables start) (asked start) (ap kind_of c.in-Commit.is) c.requires.1,
+    )
 
-pub fall-requires : goal.fall-requires
-fall-requires c = let start : Start = (goal.at.fall-requires c).Start in
-    let e : kind start ≡ is_abort = ap kind_of c.in-Abort.is in
-    (c.requires.0, at_place start (abort_live (tables start) (asked start) e c.requires.1))
+pub live-requires-in-Abort : goal.live-requires-in-Abort
+live-requires-in-Abort c = let start : Start = (goal.at.live-requires-in-Abort c).Start in at_place start (aborting start c.in-Abort.is)
 
-pub settle-requires : goal.settle-requires
-settle-requires c = let start : Start = (goal.at.settle-requires c).Start in
-    let e : kind start ≡ is_settle = ap kind_of c.in-Settle.is in
-    (c.requires.0, settle_object (tables start) (asked start) (sound_at start) e c.requires.1)
+pub invariant_of-settle : goal.invariant_of-settle
+invariant_of-settle c = let start : Start = (goal.at.invariant_of-settle c).Start in
+    record { exists = settle_object (tables start) (asked start) (sound_at start) (ap kind_of c.in-Settle.is) c.requires.1 }
 
-pub crash-requires : goal.crash-requires
-crash-requires c = let start : Start = (goal.at.crash-requires c).Start in
-    let e : kind start ≡ is_crash = ap kind_of c.in-Crash.is in
-    (c.requires.0, crash_set (tables start) (asked start) e c.requires.1)
+pub overflow_cast-c : goal.overflow_cast-c
+overflow_cast-c c = let start : Start = (goal.at.overflow_cast-c c).Start in
+    record { fits = crash_set (tables start) (asked start) (ap kind_of c.in-Crash.is) c.requires.1 }
 
 pub overflow_add-result : goal.overflow_add-result
 overflow_add-result c = omega (arith, looked (goal.at.overflow_add-result c).Start (ap kind_of c.in-Look.is))
@@ -113,23 +155,24 @@ pub offset_bounds-words-i : goal.offset_bounds-words-i
 offset_bounds-words-i c = omega (arith, looked (goal.at.offset_bounds-words-i c).Start (ap kind_of c.in-Look.is))
 
 pub bounds-words-i : goal.bounds-words-i
-bounds-words-i c = omega (arith, fitting c.args.words.now c.requires.0, looked (goal.at.bounds-words-i c).Start (ap kind_of c.in-Look.is))
+bounds-words-i c = omega (arith, words_length c.args.words.now c.requires.0, looked (goal.at.bounds-words-i c).Start (ap kind_of c.in-Look.is))
 
 pub returns-in-Start : goal.returns-in-Start
 unfolding done_value done_leaves
-returns-in-Start c = for (goal.at.returns-in-Start c).Start c.in-Start.is (ap (λ (x : Txn). x.num) c.start.ensures.0) c.start.ensures.1
+returns-in-Start c = for (goal.at.returns-in-Start c).Start c.in-Start.is (ap (λ (x : Txn). x.num) c.start.ensures.given) c.start.ensures.left
 
 pub returns-in-Read : goal.returns-in-Read
 unfolding done_value done_leaves
-returns-in-Read c = for (goal.at.returns-in-Read c).Start c.in-Read.is c.read.ensures.0 c.read.ensures.1
+returns-in-Read c = let who = c.live.ensures.who in
+    for (goal.at.returns-in-Read c).Start c.in-Read.is (rw who at c.read.ensures.given) (rw who at c.read.ensures.left)
 
 pub returns-in-Write : goal.returns-in-Write
 unfolding done_value done_leaves
-returns-in-Write c = for (goal.at.returns-in-Write c).Start c.in-Write.is refl c.write.ensures
+returns-in-Write c = for (goal.at.returns-in-Write c).Start c.in-Write.is refl (rw c.live-in-Write.ensures.who at c.write.ensures)
 
 pub returns-in-Prepare : goal.returns-in-Prepare
 unfolding done_value done_leaves
-returns-in-Prepare c = for (goal.at.returns-in-Prepare c).Start c.in-Prepare.is refl c.prepare.ensures
+returns-in-Prepare c = for (goal.at.returns-in-Prepare c).Start c.in-Prepare.is refl (rw c.live-in-Prepare.ensures.who at c.prepare.ensures)
 
 pub returns-in-Save : goal.returns-in-Save
 unfolding done_value done_leaves
@@ -137,17 +180,18 @@ returns-in-Save c = for (goal.at.returns-in-Save c).Start c.in-Save.is c.save.en
 
 pub returns-in-Commit : goal.returns-in-Commit
 unfolding done_value done_leaves
-returns-in-Commit c = for (goal.at.returns-in-Commit c).Start c.in-Commit.is (ap (λ (n : Lsn). n.num) c.commit.ensures.0) c.commit.ensures.1
+returns-in-Commit c = for (goal.at.returns-in-Commit c).Start c.in-Commit.is
+    (ap (λ (n : Lsn). n.num) c.commit.ensures.given) (rw c.live-in-Commit.ensures.who at c.commit.ensures.left)
 
 pub returns-in-Abort : goal.returns-in-Abort
 unfolding done_value done_leaves fall_count abort
 returns-in-Abort c = let start : Start = (goal.at.returns-in-Abort c).Start in
     let told = c.in-Abort.is in
-    let at = there start (abort_live (tables start) (asked start) (ap kind_of told) c.requires.1) in
+    let at = c.live-in-Abort.ensures.place ∙ there start (aborting start told) in
     let ls = (tables start).live in
     for start told
-    (c.fall.ensures.0 ∙ ap (λ (p : ℕ). how_many (fallen ls p)) at)
-    (c.fall.ensures.1 ∙ ap (λ (p : ℕ). pack (undo (tables start) (fallen ls p))) at)
+    (c.fall.ensures.fell ∙ ap (λ (p : ℕ). how_many (fallen ls p)) at)
+    (c.fall.ensures.left ∙ ap (λ (p : ℕ). pack (undo (tables start) (fallen ls p))) at)
 
 pub returns-in-Settle : goal.returns-in-Settle
 unfolding done_value done_leaves
@@ -163,7 +207,7 @@ returns-in-Restart c = for (goal.at.returns-in-Restart c).Start c.in-Restart.is 
 
 pub returns-in-Status : goal.returns-in-Status
 unfolding done_value done_leaves
-returns-in-Status c = for (goal.at.returns-in-Status c).Start c.in-Status.is c.status.ensures (unchanged (goal.at.returns-in-Status c).Start)
+returns-in-Status c = for (goal.at.returns-in-Status c).Start c.in-Status.is (c.from.ensures ∙ c.status.ensures) (unchanged (goal.at.returns-in-Status c).Start)
 
 pub returns-in-Look : goal.returns-in-Look
 unfolding done_value done_leaves look

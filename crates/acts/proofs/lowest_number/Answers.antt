@@ -8,12 +8,6 @@ pub loop-p-init : goal.loop-p-init
 unfolding least
 loop-p-init c = (omega arith, refl)
 
-pub number_among-requires : goal.number_among-requires
-number_among-requires c = (c.requires, omega arith)
-
-pub lower-low-requires : goal.lower-low-requires
-lower-low-requires c = tt
-
 pub loop-p-preserved : goal.loop-p-preserved
 unfolding least
 loop-p-preserved c = let loop = c.loop-p in (
@@ -23,4 +17,4 @@ loop-p-preserved c = let loop = c.loop-p in (
 
 pub returns : goal.returns
 returns c = let last : c.loop-p.p ≡ place_count = omega arith in
-    c.loop-p.invariant.1 ∙ ap (λ (n : ℕ). least n (among c.args.words.now c.args.places)) last
+    c.loop-p.invariant.1 ∙ ap (λ (n : ℕ). least n (among c.args.t.now.words.now c.args.places)) last

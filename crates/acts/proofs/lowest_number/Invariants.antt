@@ -11,4 +11,4 @@ abbrev pub among : List ℕ → ℕ → ℕ → ℕ
 among ws places p = cond (has places p) (place (unpack ws).live p).number.num 0
 
 abbrev pub invariant-loop-p : goal.invariant-loop-p
-invariant-loop-p l = (l.p ≤ place_count) × (l.low.num ≡ least l.p (among l.words l.places))
+invariant-loop-p l = (l.p ≤ place_count) × (l.low.num ≡ least l.p (among l.t.words.now l.places))

@@ -1,122 +1,110 @@
 -- `acts::refusal_value` meets its contract: the reason tells that the transaction is live, or that the object is one, so that
 -- the words that are read are its own.
 -- Assumes nothing.
-use Rattle.std.proofs.Common.{◌≡◌, ap, sym, subst, ◌∙◌, cond, ℕ, ◌<◌, arith, T}
-use mathlib.Core.Option.{some}
+use Rattle.std.specs.Prelude.{IsSome}
+use Rattle.std.proofs.Common.{◌≡◌, ap, sym, ◌∙◌, cond, ℕ, ◌<◌, T}
+use mathlib.Core.Logic.{◌⊎◌, ⊎_elim}
+use Rattle.std.proofs.Math.Option.{some}
 use Rattle.rules.specs.Tests.{lowest, least}
 use Rattle.rules.specs.Sets.{has}
 use Rattle.rules.specs.Tables.{Txn, Tables, object_count, place_count, place, place_of, is_live}
-use Rattle.rules.specs.Answers.{Call, Refusal, no_longer_live, lost, wait, died, unprepared, unsaved, dependency_live, refusal_value, refusal}
-use Rattle.rules.specs.Layout.{unpack}
+use Rattle.rules.specs.Answers.{Call, lost, refusal_value, refusal}
 use Rattle.words_laws.specs.Says.{depends}
 use Rattle.words_laws.specs.Words.{sound_words_say}
-use Rattle.calls.specs.Meaning.{call_of}
-use Rattle.refusals.specs.Reasons.{reason_of}
-use Rattle.lookups.proofs.Fitting.{fitting}
-use Rattle.lookups.proofs.Living.{there_live, below_live}
+use Rattle.lent.specs.Held.{held}
+use Rattle.calls.specs.declared.Refusal.{Refusal}
+use Rattle.calls.specs.declared.Refusal.TheVariants.{Wait, Died, Unprepared, Unsaved, DependencyLive}
+use Rattle.calls.specs.Calls.{call_of}
+use Rattle.calls.specs.Meaning.{refusal_of}
+use Rattle.lookups.specs.Places.{seat_number}
+use Rattle.lookups.proofs.Living.{placed_somewhere, there_live, below_live}
 use Rattle.acts.specs.Acted.{is_open}
 use Rattle.acts.proofs.Ordered.{wait_object, died_object, unprepared_live, unsaved_live, dependency_live_live}
 use Rattle.acts.proofs.Reasons.{Plain, plain_value}
-use Rattle.acts.proofs.refusal_value.Goals.{In-DependencyLive, Start}
+use Rattle.acts.proofs.refusal_value.Goals.{Start}
 use Rattle.acts.proofs.refusal_value.Goals as goal
 
 abbrev tables : Start → Tables
-tables c = unpack c.args.words.now
+tables c = held c.args.t.now
 
 abbrev asked : Start → Call
 asked c = call_of c.args.c
 
 -- the reason is the rules'
-is_reason : (c : Start) (r : Refusal) → reason_of c.args.why ≡ some r → some r ≡ refusal (tables c) (asked c)
-is_reason c r e = sym e ∙ c.requires.1
+is_reason : (c : Start) {w : Refusal} → c.args.why ≡ w → some (refusal_of w) ≡ refusal (tables c) (asked c)
+is_reason c e = sym (ap (λ (w : Refusal). some (refusal_of w)) e) ∙ c.requires.0
 
--- where the transaction is live, the place is one
-at_place : (c : Start) → T (is_live (tables c).live (asked c).who) → c.args.p < place_count
-at_place c = below_live (tables c).live (asked c).who c.args.p c.requires.2
+at_place : (c : Start) → T (is_live (tables c).live (asked c).who) → IsSome c.args.seat
+at_place c l =
+    placed_somewhere c.args.seat (below_live (tables c).live (asked c).who (seat_number c.args.seat) c.requires.1 l)
 
-there : (c : Start) → T (is_live (tables c).live (asked c).who) → c.args.p ≡ place_of (tables c).live (asked c).who
-there c = there_live (tables c).live (asked c).who c.args.p c.requires.2
+there : (c : Start) → T (is_live (tables c).live (asked c).who) → seat_number c.args.seat ≡ place_of (tables c).live (asked c).who
+there c = there_live (tables c).live (asked c).who (seat_number c.args.seat) c.requires.1
 
-depends_place : (c : In-DependencyLive) → c.args.p < place_count
-depends_place c =
-    at_place (goal.at.In-DependencyLive c).Start
-    (dependency_live_live (tables (goal.at.In-DependencyLive c).Start) (asked (goal.at.In-DependencyLive c).Start) (is_reason (goal.at.In-DependencyLive c).Start dependency_live (ap reason_of c.in-DependencyLive.is)))
+-- who has unprepared or unsaved objects, or live dependencies, is live
+unprepared_one : (c : Start) → c.args.why ≡ Unprepared → T (is_live (tables c).live (asked c).who)
+unprepared_one c e = unprepared_live (tables c) (asked c) (is_reason c e)
 
--- there is one reason
-given_for : (c : Start) (r : Refusal) → reason_of c.args.why ≡ some r → (v : ℕ) → v ≡ refusal_value r (tables c) (asked c)
-    → (q : Refusal) → reason_of c.args.why ≡ some q → (q ≡ lost → ⊥) → v ≡ refusal_value q (tables c) (asked c)
-given_for c r a v h q e f =
-    let same : r ≡ q = cc in
-    subst (λ (p : Refusal). v ≡ refusal_value p (tables c) (asked c)) same h
+unsaved_one : (c : Start) → c.args.why ≡ Unsaved → T (is_live (tables c).live (asked c).who)
+unsaved_one c e = unsaved_live (tables c) (asked c) (is_reason c e)
 
-pub holder-requires : goal.holder-requires
-holder-requires c = let start : Start = (goal.at.holder-requires c).Start in
-    (c.requires.0, wait_object _ _ (is_reason start wait (ap reason_of c.in-Wait.is)))
+depending_one : (c : Start) → c.args.why ≡ DependencyLive → T (is_live (tables c).live (asked c).who)
+depending_one c e = dependency_live_live (tables c) (asked c) (is_reason c e)
 
-pub holder-requires-in-Died : goal.holder-requires-in-Died
-holder-requires-in-Died c = let start : Start = (goal.at.holder-requires-in-Died c).Start in
-    (c.requires.0, died_object _ _ (is_reason start died (ap reason_of c.in-Died.is)))
+-- what a reason's arm gives is the value for that reason
+given_for : (c : Start) {w : Refusal} → c.args.why ≡ w → {v : ℕ} → v ≡ refusal_value (refusal_of w) (tables c) (asked c)
+    → (refusal_of c.args.why ≡ lost → ⊥) → v ≡ refusal_value (refusal_of c.args.why) (tables c) (asked c)
+given_for c e h f = h ∙ sym (ap (λ (w : Refusal). refusal_value (refusal_of w) (tables c) (asked c)) e)
 
-pub first_unprepared-requires : goal.first_unprepared-requires
-first_unprepared-requires c = (c.requires.0, at_place (goal.at.first_unprepared-requires c).Start (unprepared_live _ _ (is_reason (goal.at.first_unprepared-requires c).Start unprepared (ap reason_of c.in-Unprepared.is))))
+-- who waits or dies asked for an object
+asked_object : (c : Start) → (c.args.why ≡ Wait) ⊎ (c.args.why ≡ Died) → c.args.c.what.num < object_count
+asked_object c =
+    ⊎_elim (λ e. wait_object (tables c) (asked c) (is_reason c e)) (λ e. died_object (tables c) (asked c) (is_reason c e))
 
-pub first_unsaved-requires : goal.first_unsaved-requires
-first_unsaved-requires c = let live = unsaved_live _ _ (is_reason (goal.at.first_unsaved-requires c).Start unsaved (ap reason_of c.in-Unsaved.is)) in
-    (c.requires.0, c.requires.2, at_place (goal.at.first_unsaved-requires c).Start live)
+pub invariant_of-holder : goal.invariant_of-holder
+invariant_of-holder c = record { exists = asked_object (goal.at.invariant_of-holder c).Start c.in-Wait.is }
 
-pub overflow_add-p : goal.overflow_add-p
-overflow_add-p c = omega (arith, depends_place (goal.at.overflow_add-p c).In-DependencyLive)
+pub live-requires : goal.live-requires
+live-requires c = let start : Start = (goal.at.live-requires c).Start in at_place start (unprepared_one start c.in-Unprepared.is)
 
-pub offset_bounds-words-p : goal.offset_bounds-words-p
-offset_bounds-words-p c = omega (arith, depends_place (goal.at.offset_bounds-words-p c).In-DependencyLive)
-
-pub bounds-words-p : goal.bounds-words-p
-bounds-words-p c = omega (arith, fitting c.args.words.now c.requires.0, depends_place (goal.at.bounds-words-p c).In-DependencyLive)
+pub live-requires-in-Unsaved : goal.live-requires-in-Unsaved
+live-requires-in-Unsaved c = let start : Start = (goal.at.live-requires-in-Unsaved c).Start in at_place start (unsaved_one start c.in-Unsaved.is)
 
 pub returns-in-NoLongerLive : goal.returns-in-NoLongerLive
 unfolding refusal_value
-returns-in-NoLongerLive c = let start : Start = (goal.at.returns-in-NoLongerLive c).Start in
-    given_for start no_longer_live (ap reason_of c.in-NoLongerLive.is) _
-    c.status.ensures
+returns-in-NoLongerLive c = given_for (goal.at.returns-in-NoLongerLive c).Start c.in-NoLongerLive.is (c.from.ensures ∙ c.status.ensures)
 
 pub returns-in-Wait : goal.returns-in-Wait
 unfolding refusal_value
 returns-in-Wait c = let start : Start = (goal.at.returns-in-Wait c).Start in
-    let told = ap reason_of c.in-Wait.is in
-    given_for start wait told _ (ap (λ (x : Txn). x.num) c.holder.ensures)
-
-pub returns-in-Died : goal.returns-in-Died
-unfolding refusal_value
-returns-in-Died c = let start : Start = (goal.at.returns-in-Died c).Start in
-    let told = ap reason_of c.in-Died.is in
-    given_for start died told _ (ap (λ (x : Txn). x.num) c.holder-in-Died.ensures)
+    let holder = ap (λ (x : Txn). x.num) (c.holder.ensures.sound c.args.t.now.sound) in
+    ⊎_elim (λ e. given_for start e holder) (λ e. given_for start e holder) c.in-Wait.is
 
 pub returns-in-Unprepared : goal.returns-in-Unprepared
 unfolding refusal_value
 returns-in-Unprepared c = let start : Start = (goal.at.returns-in-Unprepared c).Start in
-    let told = ap reason_of c.in-Unprepared.is in
-    let ls = (unpack c.args.words.now).live in
-    given_for start unprepared told _
+    given_for start c.in-Unprepared.is
     (c.first_unprepared.ensures
-    ∙ ap (λ (p : ℕ). lowest object_count (is_open (place ls p))) (there start (unprepared_live _ _ (is_reason start unprepared told))))
+    ∙ ap (λ (p : ℕ). lowest object_count (is_open (place (tables start).live p)))
+    (c.live.ensures.place ∙ there start (unprepared_one start c.in-Unprepared.is)))
 
 pub returns-in-Unsaved : goal.returns-in-Unsaved
 unfolding refusal_value
-returns-in-Unsaved c = let start : Start = (goal.at.returns-in-Unsaved c).Start in
-    given_for start unsaved (ap reason_of c.in-Unsaved.is) _
-    c.first_unsaved.ensures
+returns-in-Unsaved c = given_for (goal.at.returns-in-Unsaved c).Start c.in-Unsaved.is (rw c.live-in-Unsaved.ensures.who at c.first_unsaved.ensures)
+
+pub live-requires-in-DependencyLive : goal.live-requires-in-DependencyLive
+live-requires-in-DependencyLive c = let start : Start = (goal.at.live-requires-in-DependencyLive c).Start in at_place start (depending_one start c.in-DependencyLive.is)
 
 pub returns-in-DependencyLive : goal.returns-in-DependencyLive
 unfolding refusal_value
 returns-in-DependencyLive c = let start : Start = (goal.at.returns-in-DependencyLive c).Start in
-    let told = ap reason_of c.in-DependencyLive.is in
-    let ws = c.args.words.now in
-    let ls = (unpack ws).live in
-    let live = dependency_live_live _ _ (is_reason start dependency_live told) in
-    given_for start dependency_live told _
+    let here = c.live-in-DependencyLive in
+    let at = here.ensures.place ∙ there start (depending_one start c.in-DependencyLive.is) in
+    let ls = (tables start).live in
+    given_for start c.in-DependencyLive.is
     (c.lowest_number.ensures
     ∙ ap (λ (d : ℕ). least place_count (λ q. cond (has d q) (place ls q).number.num 0))
-    ((sound_words_say ws c.requires.0).column depends _ (at_place start live) ∙ ap (λ (p : ℕ). (place ls p).depends) (there start live)))
+    ((sound_words_say c.args.t.now.words.now c.args.t.now.sound).column depends _ here.result.place.exists ∙ ap (λ (p : ℕ). (place ls p).depends) at))
 
 pub returns-in_default : goal.returns-in_default
 returns-in_default c =
@@ -129,4 +117,4 @@ returns-in_default c =
       not_unsaved = c.in_default.not-Unsaved;
       not_dependency_live = c.in_default.not-DependencyLive;
     } in
-    plain_value c.args.why plain (unpack c.args.words.now) (call_of c.args.c)
+    plain_value c.args.why plain (held c.args.t.now) (call_of c.args.c)

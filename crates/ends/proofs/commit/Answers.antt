@@ -4,7 +4,7 @@
 use Rattle.std.proofs.Common.{List, subst, sym, ◌∙◌, ℕ, ◌+◌, ◌<◌, ◌^◌, arith}
 use Rattle.rules.specs.Sets.{width}
 use Rattle.rules.specs.Layout.{word, depends_at}
-use Rattle.ends_laws.specs.Leaves.{size, log_count_is, seat_below, commit_leaves, depends_fit}
+use Rattle.ends_laws.specs.Leaves.{size, log_count_is, commit_leaves, depends_fit}
 use Rattle.ends.proofs.commit.Goals as goal
 
 pub add_record-requires : goal.add_record-requires
@@ -12,32 +12,19 @@ add_record-requires c = let ws : List ℕ = c.args.words.now in
     (size ws c.requires.0, omega (arith, log_count_is ws c.requires.0))
 
 pub strike_all-requires : goal.strike_all-requires
-strike_all-requires c = let add_record_call = c.add_record in
+strike_all-requires c = let call = c.add_record in
     let ws : List ℕ = c.args.words.now in
-    let x = c.args.x.num in
     let pre = c.requires in (
-      add_record_call.auto.words ∙ size ws pre.0,
-      seat_below ws pre.0 x c.args.p pre.1 pre.2,
-      λ q h. subst (λ (vs : List ℕ). word vs (depends_at + q) < 2 ^ width) (sym add_record_call.ensures)
-          (depends_fit ws pre.0 _ pre.3 q h),
+      call.auto.words ∙ size ws pre.0,
+      λ q h. subst (λ (vs : List ℕ). word vs (depends_at + q) < 2 ^ width) (sym call.ensures)
+          (depends_fit ws pre.0 _ pre.2 q h),
     )
 
 pub free_place-requires : goal.free_place-requires
-free_place-requires c = let add_record_call = c.add_record in
-    let ws : List ℕ = c.args.words.now in
-    let pre = c.requires in (
-      c.strike_all.auto.words ∙ add_record_call.auto.words ∙ size ws pre.0,
-      seat_below ws pre.0 c.args.x.num c.args.p pre.1 pre.2,
-    )
-
-pub shape_of-words : goal.shape_of-words
-shape_of-words c = let strike_all_call = c.strike_all in
-    let add_record_call = c.add_record in
-    c.free_place.auto.words ∙ strike_all_call.auto.words ∙ add_record_call.auto.words
+free_place-requires c = c.strike_all.auto.words ∙ c.add_record.auto.words ∙ size c.args.words.now c.requires.0
 
 pub returns : goal.returns
-returns c = let strike_all_call = c.strike_all in
-    let add_record_call = c.add_record in
-    let pre = c.requires in
-    commit_leaves c.args.words.now pre.0 c.args.x.num pre.3 c.args.p pre.1 pre.2
-    add_record_call.ensures strike_all_call.ensures c.free_place.ensures
+returns c = let pre = c.requires in
+    let live = c.args.live in
+    commit_leaves c.args.words.now pre.0 live.who.num pre.2 live.place.num pre.1.0 pre.1.1
+    c.add_record.ensures c.strike_all.ensures c.free_place.ensures

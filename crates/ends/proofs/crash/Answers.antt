@@ -1,26 +1,26 @@
-use Rattle.std.proofs.Common.{List, ◌≡◌, refl, ap, sym, ◌∙◌, ℕ, arith}
+use Rattle.std.proofs.Common.{List, ◌≡◌, refl, ap, ◌∙◌, ℕ, arith}
 use Rattle.rules.specs.Tests.{sum}
 use Rattle.rules.specs.Tables.{object_count}
 use Rattle.rules.specs.Steps.{crash_count}
-use Rattle.ends_laws.specs.Loops.{turning_none, turning_more, turning_all}
+use Rattle.ends_laws.specs.Loops.{turned_none, turned_more, turned_all}
 use Rattle.ends_laws.specs.Crash.{crash_words}
 use Rattle.ends_laws.specs.Leaves.{size, crash_leaves, dropped as dropped-in, dropped_more, drops, drops_few}
 use Rattle.ends.proofs.crash.Goals as goal
 
 pub loop-i-init : goal.loop-i-init
 unfolding sum
-loop-i-init c = (turning_none (size c.args.words.now c.requires.0), refl, omega arith)
+loop-i-init c = (turned_none, refl, omega arith)
 
 pub crash_object-dropped-requires : goal.crash_object-dropped-requires
-crash_object-dropped-requires c = (c.loop-i.invariant.0.size, omega arith)
+crash_object-dropped-requires c = c.loop-i.auto.words ∙ size c.args.words.now c.requires
 
 pub overflow_add-dropped : goal.overflow_add-dropped
 overflow_add-dropped c = let turn = c.loop-i in
     let ws : List ℕ = c.args.words.now in
     let now =
     c.crash_object-dropped.ensures.0
-    ∙ drops ws c.requires.0 c.args.objects turn.i (omega arith) turn.words turn.invariant.0.left in
-    omega (arith, drops_few ws c.requires.0 c.args.objects turn.i (omega arith))
+    ∙ drops ws c.requires c.args.objects turn.i (omega arith) turn.words turn.invariant.0.left in
+    omega (arith, drops_few ws c.requires c.args.objects turn.i (omega arith))
 
 pub loop-i-preserved : goal.loop-i-preserved
 loop-i-preserved c = let turn = c.loop-i in
@@ -29,14 +29,11 @@ loop-i-preserved c = let turn = c.loop-i in
     let objects = c.args.objects in
     let now =
     crash_object_call.ensures.0
-    ∙ drops ws c.requires.0 objects turn.i (omega arith) turn.words turn.invariant.0.left in (
-      turning_more turn.invariant.0 (omega arith) crash_object_call.auto.words crash_object_call.ensures.1,
+    ∙ drops ws c.requires objects turn.i (omega arith) turn.words turn.invariant.0.left in (
+      turned_more turn.invariant.0 crash_object_call.ensures.1,
       dropped_more ws objects turn.i turn.dropped crash_object_call.result turn.invariant.1 now,
-      omega (arith, drops_few ws c.requires.0 objects turn.i (omega arith)),
+      omega (arith, drops_few ws c.requires objects turn.i (omega arith)),
     )
-
-pub shape_of-words : goal.shape_of-words
-shape_of-words c = c.loop-i.invariant.0.size ∙ sym (size c.args.words.now c.requires.0)
 
 pub returns : goal.returns
 unfolding crash_words crash_count
@@ -45,5 +42,5 @@ returns c = let turn = c.loop-i in
     let objects = c.args.objects in
     let all : turn.i ≡ object_count = omega arith in (
       turn.invariant.1 ∙ ap (λ (n : ℕ). sum n (dropped-in ws objects)) all,
-      turning_all turn.invariant.0 c.loop-i-test.false ∙ crash_leaves ws c.requires.0 objects,
+      turned_all turn.invariant.0 all ∙ crash_leaves ws c.requires objects,
     )

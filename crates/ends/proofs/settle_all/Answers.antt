@@ -1,9 +1,9 @@
-use Rattle.std.proofs.Common.{List, subst, ◌≡◌, ap, sym, ◌∙◌, ℕ, arith, T, length}
+use Rattle.std.proofs.Common.{List, subst, ◌≡◌, ap, sym, ◌∙◌, ℕ, arith, T}
 use Rattle.rules.specs.Tables.{object_count}
 use Rattle.rules.specs.Layout.{sound_words, pack, unpack}
-use Rattle.words_laws.specs.Words.{words_again, pack_length}
+use Rattle.words_laws.specs.Words.{words_again}
 use Rattle.ends_laws.specs.Restart.{settle_first}
-use Rattle.ends_laws.specs.Leaves.{size, still_sound, settle_next}
+use Rattle.ends_laws.specs.Leaves.{still_sound, settle_next}
 use Rattle.ends.proofs.settle_all.Goals as goal
 
 pub loop-i-init : goal.loop-i-init
@@ -11,11 +11,9 @@ unfolding settle_first
 loop-i-init c = (omega arith, sym (words_again c.args.words.now c.requires))
 
 pub settle-requires : goal.settle-requires
-settle-requires c = let turn = c.loop-i in (
-  subst (λ (vs : List ℕ). T (sound_words vs)) (sym turn.invariant.1)
-      (still_sound c.args.words.now c.requires turn.i (omega arith)),
-  omega arith,
-)
+settle-requires c = let turn = c.loop-i in
+    subst (λ (vs : List ℕ). T (sound_words vs)) (sym turn.invariant.1)
+    (still_sound c.args.words.now c.requires turn.i (omega arith))
 
 pub loop-i-preserved : goal.loop-i-preserved
 loop-i-preserved c = let turn = c.loop-i in (
@@ -23,11 +21,6 @@ loop-i-preserved c = let turn = c.loop-i in (
   settle_next c.args.words.now c.requires turn.i (omega arith) turn.invariant.1
       c.settle.ensures.1,
 )
-
-pub shape_of-words : goal.shape_of-words
-shape_of-words c = let turn = c.loop-i in
-    ap length turn.invariant.1 ∙ pack_length (settle_first turn.i (unpack c.args.words.now))
-    ∙ sym (size c.args.words.now c.requires)
 
 pub returns : goal.returns
 returns c = let turn = c.loop-i in

@@ -1,34 +1,24 @@
-use Rattle.std.proofs.Common.{List, ap, sym, ◌∙◌, ℕ, ◌+◌, arith}
+use Rattle.std.proofs.Common.{List, ap, ◌∙◌, ℕ, ◌+◌, arith}
 use Rattle.rules.specs.Layout.{word, depends_at}
-use Rattle.ends_laws.specs.Loops.{turning_none, turning_more, turning_all}
+use Rattle.ends_laws.specs.Loops.{turned_none, turned_more}
 use Rattle.ends_laws.specs.Commit.{strike_later}
 use Rattle.ends.proofs.strike_all.Goals as goal
 
 pub loop-q-init : goal.loop-q-init
-loop-q-init c = turning_none c.requires.0
+loop-q-init c = turned_none
 
 pub strike-requires : goal.strike-requires
 strike-requires c = let turn = c.loop-q in
     let q = turn.q in
     let ws : List ℕ = c.args.words.now in (
-      turn.invariant.size,
-      c.requires.1,
-      omega arith,
+      turn.auto.words ∙ c.requires.0,
       omega (
         arith,
-        c.requires.2 q (omega arith),
-        ap (λ (vs : List ℕ). word vs (depends_at + q))
-            turn.invariant.left,
-        strike_later c.args.p ws q q (omega arith),
+        c.requires.1 q (omega arith),
+        ap (λ (vs : List ℕ). word vs (depends_at + q)) turn.invariant.left,
+        strike_later c.args.p.num ws q q (omega arith),
       ),
     )
 
 pub loop-q-preserved : goal.loop-q-preserved
-loop-q-preserved c = let call = c.strike in
-    turning_more c.loop-q.invariant (omega arith) call.auto.words call.ensures
-
-pub shape_of-words : goal.shape_of-words
-shape_of-words c = c.loop-q.invariant.size ∙ sym c.requires.0
-
-pub returns : goal.returns
-returns c = turning_all c.loop-q.invariant c.loop-q-test.false
+loop-q-preserved c = turned_more c.loop-q.invariant c.strike.ensures

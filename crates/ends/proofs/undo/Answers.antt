@@ -1,21 +1,19 @@
--- `ends::undo` meets its contract. It is what its two callees leave, one after the other, which `undo_leaves` says is
--- the step.
+-- `ends::undo` meets its contract. It is what its two loops leave, one after the other, which `undo_leaves` says is the
+-- step.
 -- Assumes nothing.
-use Rattle.std.proofs.Common.{◌∙◌}
+use Rattle.std.proofs.Common.{◌∙◌, rules}
+use Rattle.ends_laws.specs.Undo.{undo_object, undo_place}
 use Rattle.ends_laws.specs.Leaves.{size, undo_leaves}
 use Rattle.ends.proofs.undo.Goals as goal
 
-pub undo_objects-requires : goal.undo_objects-requires
-undo_objects-requires c = size c.args.words.now c.requires.0
+pub each_object-requires : goal.each_object-requires
+each_object-requires c = (size c.args.words.now c.requires.0, search rules)
 
-pub undo_places-requires : goal.undo_places-requires
-undo_places-requires c = c.undo_objects.auto.words ∙ size c.args.words.now c.requires.0
-
-pub shape_of-words : goal.shape_of-words
-shape_of-words c = let undo_objects_call = c.undo_objects in
-    c.undo_places.auto.words ∙ undo_objects_call.auto.words
+pub each_place-requires : goal.each_place-requires
+each_place-requires c = (c.each_object.auto.words ∙ size c.args.words.now c.requires.0, search rules)
 
 pub returns : goal.returns
-returns c = let undo_objects_call = c.undo_objects in
-    undo_leaves c.args.words.now c.requires.0 c.args.f c.requires.1 undo_objects_call.ensures
-    c.undo_places.ensures
+returns c = let f = c.args.f in
+    undo_leaves c.args.words.now c.requires.0 f c.requires.1
+    (c.each_object.ensures (undo_object f) (λ ws vs o n e. search rules))
+    (c.each_place.ensures (undo_place f) (λ ws vs p n e. search rules))

@@ -1,21 +1,30 @@
--- `frames::fields` meets its contract: the table is the list of what each of the rules' kinds uses, which is computed
--- once, over the table, and the entry at a place of it is that of the kind at that place.
+-- The table is the list of what each of the rules' kinds uses: the entry at the place of a kind is that of the kind.
 -- Assumes nothing.
-use Rattle.std.proofs.Common.{◌-◌, arith}
-use lib.ListN.{get_or-map}
-use Rattle.rules.specs.Answers.{is_start}
-use Rattle.rules.specs.Frames.{fields_of, kinds}
-use Rattle.frames_laws.specs.Stretches.{passed}
-use Rattle.frames.specs.Parts.{packed}
+use Rattle.std.proofs.Common.{◌≡◌, refl, ◌+◌, ◌-◌, get_or}
+use denote.Enum.Declared.{tag_of}
+use Rattle.rules.specs.Frames.{fields_of}
+use Rattle.calls.specs.declared.Kind.{Kind}
+use Rattle.calls.specs.declared.Kind.TheVariants.{Start, Read, Write, Prepare, Save, Commit, Abort, Settle, Crash, Restart, Status, Look}
+use Rattle.calls.specs.contracts.Kind.{the_type}
+use Rattle.calls.specs.Meaning.{kind_of}
+use Rattle.frames.specs.declared.TheConstants.{USES, NO_FIELD}
+use Rattle.frames.specs.Uses.{uses_as}
 use Rattle.frames.proofs.fields.Goals as goal
 
-pub overflow_sub-result : goal.overflow_sub-result
-overflow_sub-result c = omega (arith, simp passed at c.requires)
-
-pub bounds-kind : goal.bounds-kind
-unfolding kinds
-bounds-kind c = omega (arith, simp passed at c.requires)
+at_kind : (k : Kind) → uses_as (get_or USES (tag_of the_type k + 1 - 1) NO_FIELD) ≡ fields_of (kind_of k)
+unfolding fields_of
+at_kind Start = refl
+at_kind Read = refl
+at_kind Write = refl
+at_kind Prepare = refl
+at_kind Save = refl
+at_kind Commit = refl
+at_kind Abort = refl
+at_kind Settle = refl
+at_kind Crash = refl
+at_kind Restart = refl
+at_kind Status = refl
+at_kind Look = refl
 
 pub returns : goal.returns
-unfolding fields_of kinds
-returns c = get_or-map (λ k. packed (fields_of k)) kinds (c.args.kind - 1) is_start
+returns c = at_kind c.args.kind

@@ -1,28 +1,23 @@
-use Rattle.std.proofs.Common.{◌≡◌, refl, sym, ap, ◌∙◌, suc, ◌-◌, ◌%◌, arith, length-set}
-use Rattle.rules.specs.Frames.{digits}
-use Rattle.frames.specs.Parts.{over}
-use Rattle.frames.proofs.Rooms.{over_none, over_digit}
+use Rattle.std.proofs.Common.{◌≡◌, ◌∙◌, List, ◌++◌, ℕ, zero, suc, ◌-◌, ◌/◌, ◌%◌, ◌≤◌, ◌<◌, arith, length, drop, set, add-one, append_assoc}
+use Rattle.std.proofs.lemmas.List.{drop-set}
+use Rattle.rules.specs.Frames.{digit, digits}
 use Rattle.frames.proofs.Stretches.{character_at}
 use Rattle.frames.proofs.put.Goals as goal
 
-pub loop-left-init : goal.loop-left-init
-loop-left-init c = (omega arith, refl, refl)
+-- the last digit, and then those before it
+one_digit : (i n : ℕ) (bs : List ℕ) → 0 < i → i ≤ length bs
+    → digits (i - 1) (n / 16) ++ drop (i - 1) (set bs (i - 1) (digit (n % 16))) ≡ digits i n ++ drop i bs
+unfolding digits
+one_digit zero n bs h k = absurd (omega arith)
+one_digit (suc i) n bs h k =
+    let before : suc i - 1 ≡ i = omega arith in
+    rw (before, drop-set bs i (digit (n % 16)) k, append_assoc, add-one)
 
-pub loop-left-preserved : goal.loop-left-preserved
-loop-left-preserved c = let place = c.args.at in
-    let one_less : suc (c.loop-left.left - 1) ≡ c.loop-left.left = omega arith in (
-      omega arith,
-      simp length-set (omega arith),
-      rw (character_at c.requires.digits (c.loop-left.rest % 16) (omega arith))
-          (over_digit c.loop-left.room place (c.loop-left.left - 1) c.loop-left.rest (omega arith)
-          ∙ ap (λ k. over c.loop-left.room place (digits k c.loop-left.rest)) one_less
-          ∙ c.loop-left.invariant.2),
-    )
+pub loop-i-preserved : goal.loop-i-preserved
+loop-i-preserved c =
+    rw (character_at (c.loop-i.rest % 16) (omega arith))
+    (one_digit c.loop-i.i c.loop-i.rest c.loop-i.room (omega arith) (omega arith) ∙ c.loop-i.invariant)
 
 pub returns : goal.returns
 unfolding digits
-returns c = let place = c.args.at in
-    let none_left : 0 ≡ c.loop-left.left = omega arith in
-    sym (over_none c.loop-left.room place)
-    ∙ ap (λ k. over c.loop-left.room place (digits k c.loop-left.rest)) none_left
-    ∙ c.loop-left.invariant.2
+returns c = let none_left : c.loop-i.i ≡ 0 = omega arith in rw none_left at c.loop-i.invariant

@@ -1,28 +1,39 @@
--- `frames::write` meets its contract: the line feed, the value in front of it and the number in front of both are the
--- answer's line, written over its 19 bytes.
+-- `frames::write` meets its contract: in front of what stays of the room are the line feed, the value's digits and the
+-- number's.
 -- Assumes nothing.
-use Rattle.std.proofs.Common.{◌≡◌, refl, ◌∙◌, arith, length, length-set}
-use Rattle.rules.specs.Tests.{row}
-use Rattle.frames.specs.Parts.{digit_characters}
-use Rattle.frames.proofs.Rooms.{over_answer}
-use Rattle.frames.proofs.write.Goals.{After-put}
+use Rattle.std.proofs.Common.{◌≡◌, ap, ap₂, ◌∙◌, List, ◌∷◌, ◌++◌, ℕ, ◌≤◌, arith, length, take, drop, set, length-take, length-drop, length-take-le, length-set}
+use Rattle.std.proofs.lemmas.List.{drop-set}
+use Rattle.std.proofs.lemmas.Slice.{take-put_mid_below}
+use borrow.Rule.Slice.PartMut.{put_mid, post_of}
+use lib.Seq.{drop_at, drop-drop}
+use Rattle.rules.specs.Frames.{line_feed, digits, write_answer}
 use Rattle.frames.proofs.write.Goals as goal
 
--- the room is as long after the value as before it
-after_value : (c : After-put) → length c.put.new.room ≡ length c.args.room.now
-after_value c = c.put.auto.room ∙ simp length-set
+module _ (room : List ℕ) (h : 19 ≤ length room) where
+  -- the room once the line feed is written
+  abbrev ended : List ℕ
+  ended = set room 18 line_feed
 
-pub put-requires : goal.put-requires
-unfolding digit_characters row
-put-requires c = record { digits = refl; within = simp length-set (omega arith) }
+  number_length : (value : List ℕ) → length (take 2 (put_mid 2 16 ended value)) ≡ 2
+  number_length value =
+      let long : 2 ≤ length ended = simp length-set (omega arith) in
+      ap length (take-put_mid_below 2 16 ended value 2 (omega arith) long) ∙ length-take-le 2 ended long
 
-pub put-requires-2 : goal.put-requires-2
-unfolding digit_characters row
-put-requires-2 c = record { digits = refl; within = omega (arith, after_value (goal.at.put-requires-2 c).After-put) }
+  value_length : length (take 16 (drop 2 ended)) ≡ 16
+  value_length = simp (length-take, length-drop, length-set) (omega arith)
 
-pub shape_of-room : goal.shape_of-room
-shape_of-room c = c.put-2.auto.room ∙ after_value (goal.at.shape_of-room c).After-put
+  behind_number : (value : List ℕ) → drop 2 (put_mid 2 16 ended value) ≡ value ++ line_feed ∷ drop 19 room
+  behind_number value =
+      let long : length (take 2 ended) ≡ 2 = length-take-le 2 ended (simp length-set (omega arith)) in
+      drop_at (take 2 ended) (value ++ post_of 2 16 ended) 2 long
+      ∙ ap (λ l. value ++ l) (drop-drop 16 2 ended ∙ drop-set room 18 line_feed (omega arith))
 
 pub returns : goal.returns
-returns c = let put2 = c.put-2 in
-    rw (put2.ensures, c.put.ensures) (over_answer c.args.room.now c.args.at c.args.answer c.requires)
+unfolding write_answer digits
+returns c = let room = c.args.room.now in
+    let answer = c.args.answer in
+    let value : c.put.new.room ≡ digits 16 answer.value = c.put.ensures ∙ ap (λ n. digits n answer.value) (value_length room c.requires) in
+    let number : c.put-2.new.room ≡ digits 2 answer.number
+    = c.put-2.ensures ∙ ap (λ n. digits n answer.number) (number_length room c.requires c.put.new.room)
+    in
+    ap₂ (λ a b. a ++ b) number (behind_number room c.requires c.put.new.room ∙ ap (λ v. v ++ line_feed ∷ drop 19 room) value)

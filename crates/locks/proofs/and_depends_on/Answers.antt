@@ -1,30 +1,28 @@
--- `locks::and_depends_on` meets its contract: a transaction is live where its number is not 0 and it has a place.
--- Assumes nothing.
+-- `locks::and_depends_on` meets its contract: a transaction has a place where it is live. Assumes nothing.
 use Rattle.std.proofs.Common.{ap, sym, ◌∙◌, arith}
 use Rattle.rules.specs.Sets.{with_member}
 use Rattle.rules.specs.Tables.{txn}
 use Rattle.rules.specs.Layout.{unpack}
-use Rattle.sound_laws.specs.Live.{live_at, nobody_not_live}
+use Rattle.sound_laws.specs.Live.{live_at}
+use Rattle.lookups.specs.Places.{seat_number}
+use Rattle.lookups.proofs.Living.{live_below, there_below, below_live}
 use Rattle.locks_laws.specs.Accessed.{depends_live, depends_gone}
 use Rattle.locks.proofs.and_depends_on.Goals as goal
 
-pub returns-then-nobody : goal.returns-then-nobody
-returns-then-nobody c = let a = c.args in
-    sym
-    (depends_gone a.words.now a.d a.y.num
-    (nobody_not_live (unpack a.words.now).live (txn a.y.num) c.if-nobody.true))
+pub returns-in-Some : goal.returns-in-Some
+returns-in-Some c = let a = c.args in
+    let ws = a.t.now.words.now in
+    let ls = (unpack ws).live in
+    let y = txn a.y.num in
+    let p = c.in-Some.p in
+    let e = ap seat_number (sym c.in-Some.is) ∙ c.live_place.ensures in
+    let at = live_at ls y (live_below ls y p.num e p.exists) in
+    c.with.ensures ∙ ap (with_member a.d) (there_below ls y p.num e p.exists) ∙ sym (depends_live ws a.d a.y.num at.somebody at.below)
 
-pub returns-then-p-lt32 : goal.returns-then-p-lt32
-returns-then-p-lt32 c = let a = c.args in
-    let e = c.place_of-p.ensures in
-    let named = c.if-nobody.false in
-    c.with.ensures
-    ∙ ap (with_member a.d) e
-    ∙ sym (depends_live a.words.now a.d a.y.num named (omega (arith, c.if-p-lt32.true)))
-
-pub returns-else-p-lt32 : goal.returns-else-p-lt32
-returns-else-p-lt32 c = let a = c.args in
-    let e = c.place_of-p.ensures in
-    sym
-    (depends_gone a.words.now a.d a.y.num
-    (λ t. let h = (live_at (unpack a.words.now).live (txn a.y.num) t).below in omega (arith, c.if-p-lt32.false)))
+pub returns-in-None : goal.returns-in-None
+returns-in-None c = let a = c.args in
+    let ws = a.t.now.words.now in
+    let ls = (unpack ws).live in
+    let y = txn a.y.num in
+    let e = ap seat_number (sym c.in-None.is) ∙ c.live_place.ensures in
+    sym (depends_gone ws a.d a.y.num (λ l. let h = below_live ls y 32 e l in omega arith))

@@ -13,4 +13,4 @@ abbrev pub after : List ℕ → ℕ → ℕ → ℕ
 after ws p n = rounds n (unpack ws).live (collect place_count (λ q. eqb q p))
 
 abbrev pub invariant-loop : goal.invariant-loop
-invariant-loop l = (l.counter ≤ place_count) × (l.s ≡ after l.words l.p l.counter)
+invariant-loop l = (l.counter ≤ place_count) × (l.s ≡ after l.t.words.now l.fn.p.num l.counter)

@@ -1,16 +1,16 @@
-use Rattle.std.proofs.Common.{arith, below_more}
-use Rattle.lookups.proofs.Scanning.{found}
+-- `lookups::scan` meets its contract. What `position` gives, or the count where it gives none, is the first.
+-- Assumes nothing.
+use Rattle.std.proofs.Common.{rules, ◌∙◌, ◌≡◌, ◌≢◌}
+use borrow.Author.Tests.{tests}
+use Rattle.std.proofs.lemmas.Iterator.{IsFirst-from_position, YieldsList-from_slice}
+use Rattle.lookups.proofs.Scanning.{searched}
 use Rattle.lookups.proofs.scan.Goals as goal
 
-pub returns-then-words-from : goal.returns-then-words-from
-returns-then-words-from c = found c.args.words.now c.args.from
-    c.args.count c.args.x
-    c.loop-i.i (omega arith) c.loop-i.invariant.1 (λ h. c.if-words-from.true)
-
-pub loop-i-preserved : goal.loop-i-preserved
-loop-i-preserved c = (omega arith, below_more _ _ c.loop-i.invariant.1 c.if-words-from.false)
-
 pub returns : goal.returns
-returns c = found c.args.words.now c.args.from c.args.count
-    c.args.x c.args.count (omega arith)
-    (λ k h. c.loop-i.invariant.1 k (omega arith)) (λ h. omega arith)
+returns c = let a = c.args in
+    c.unwrap_or.ensures
+    ∙ searched a.words.now a.from a.count a.x c.requires c.position.result
+    (IsFirst-from_position _ _ _ (λ w. w ≡ a.x) (λ w. w ≢ a.x) c.position.ensures.ran
+    (YieldsList-from_slice _ c.iter.ensures.rest)
+    (λ w q k. search (rules, tests))
+    (λ w q k. search (rules, tests)))

@@ -3,5 +3,5 @@
 use Rattle.maruvoog.specs.Unused.{as_ruled}
 use Rattle.maruvoog.proofs.ask.Goals as goal
 
-pub one-requires : goal.one-requires
-one-requires c = as_ruled c.args.kind c.args.txn c.args.object c.args.value c.requires
+pub invariant_of-c : goal.invariant_of-c
+invariant_of-c c = record { unused = as_ruled c.args.kind c.args.txn c.args.object c.args.value c.requires }

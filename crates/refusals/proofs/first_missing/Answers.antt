@@ -6,5 +6,4 @@ use Rattle.refusals.proofs.Entries.{first_lacking_says}
 use Rattle.refusals.proofs.first_missing.Goals as goal
 
 pub returns : goal.returns
-returns c = c.first_lacking.ensures
-    ∙ first_lacking_says c.args.words.now c.requires.0 c.args.x.num c.args.p c.requires.1 c.requires.2 true
+returns c = c.first_lacking.ensures ∙ first_lacking_says c.args.t.now.words.now c.args.t.now.sound c.args.live c.requires true

@@ -1,13 +1,11 @@
--- `stepping::serve` meets its contract. The loop's invariant: the words are sound, and what is kept leaves room in the
--- buffer.
+-- `stepping::serve` meets its contract. The loop's invariant: so many turns were taken, each of which read a byte.
 -- Assumes nothing.
-use Rattle.std.proofs.Common.{◌≤◌, T, length}
-use Rattle.rules.specs.Layout.{sound_words}
-use Rattle.stepping.specs.Kept.{most_kept}
+use Rattle.std.proofs.Common.{take}
+use Rattle.stepping.specs.Answered.{OnwardIfKnown}
 use Rattle.stepping.proofs.serve.Given as goal
 
 abbrev pub invariant-loop : goal.invariant-loop
-invariant-loop g l = T (sound_words l.words)
-    × (19 ≤ length l.room)
-    × (most_kept ≤ length l.buffer)
-    × (l.kept ≤ most_kept)
+invariant-loop g l =
+    OnwardIfKnown l.counter l.initial.answerer.words (take l.initial.unfinished.kept l.initial.unfinished.buffer)
+    (g.R.Read.remaining l.initial.input) (g.W.Write.contents l.initial.output) l.answerer.words
+    (take l.unfinished.kept l.unfinished.buffer) (g.R.Read.remaining l.input) (g.W.Write.contents l.output)

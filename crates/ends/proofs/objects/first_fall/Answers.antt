@@ -16,10 +16,7 @@ answer : (c : After-falls)
     → c.falls.result ≡ test (goal.at.After-falls c).Start c.loop-j.j
 answer c =
     let a = c.args in
-    c.falls.ensures ∙ ap (falls_in a.words.now a.f) c.writer_at.ensures
-
-pub loop-j-init : goal.loop-j-init
-loop-j-init c = (omega arith, λ k l t. absurd (omega arith))
+    c.falls.ensures ∙ ap (falls_in a.words.now a.f) c.writer_at-writer.ensures
 
 pub returns-then-falls : goal.returns-then-falls
 unfolding first_fall

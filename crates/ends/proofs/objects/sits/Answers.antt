@@ -1,18 +1,17 @@
 -- `ends::objects::sits` meets its contract. The place is found, or there is none.
 -- Assumes nothing.
+use Rattle.std.proofs.Common.{ap, sym, ◌∙◌, le_refl}
+use Rattle.lookups.specs.Places.{seat_number}
 use Rattle.lookups.specs.Scans.{first_at}
 use Rattle.ends_laws.specs.Scans.{seat, sits_there, sits_nowhere}
 use Rattle.ends.proofs.objects.sits.Goals as goal
 
-pub returns-then-p-lt32 : goal.returns-then-p-lt32
+pub returns-in-Some : goal.returns-in-Some
 unfolding seat first_at
-returns-then-p-lt32 c = let call = c.seat-p in
-    let a = c.args in
-    sits_there a.words.now a.f a.x.num call.result call.ensures c.if-p-lt32.true c.has.result
-    c.has.ensures
+returns-in-Some c = let p = c.in-Some.p in
+    sits_there c.args.words.now c.args.f c.args.x.num p.num (ap seat_number (sym c.in-Some.is) ∙ c.seat.ensures) p.exists _ c.has.ensures
 
-pub returns-else-p-lt32 : goal.returns-else-p-lt32
+pub returns-in-None : goal.returns-in-None
 unfolding seat first_at
-returns-else-p-lt32 c = let call = c.seat-p in
-    let a = c.args in
-    sits_nowhere a.words.now a.f a.x.num call.result call.ensures c.if-p-lt32.false
+returns-in-None c =
+    sits_nowhere c.args.words.now c.args.f c.args.x.num 32 (ap seat_number (sym c.in-None.is) ∙ c.seat.ensures) (le_refl 32)

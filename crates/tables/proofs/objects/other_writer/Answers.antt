@@ -1,15 +1,13 @@
-use Rattle.std.proofs.Common.{arith, below_more}
-use Rattle.tables.specs.Tells.{holds_so, fails_so}
+-- `tables::objects::other_writer` meets its contract: none of the earlier entries is of this one's writer. Assumes nothing.
+use Rattle.std.proofs.Common.{sym, ◌∙◌, subst}
+use Rattle.std.specs.Prelude.{T}
+use Rattle.lookups.proofs.Writers.{wrote_none_says}
 use Rattle.tables.proofs.objects.other_writer.Goals as goal
 
-pub loop-k-init : goal.loop-k-init
-loop-k-init c = (omega arith, λ i h. absurd (omega arith))
-
-pub returns-then-words-o : goal.returns-then-words-o
-returns-then-words-o c = fails_so λ t. t c.loop-k.k (omega arith) c.if-words-o.true
-
-pub loop-k-preserved : goal.loop-k-preserved
-loop-k-preserved c = (omega arith, below_more _ _ c.loop-k.invariant.1 c.if-words-o.false)
-
 pub returns : goal.returns
-returns c = holds_so λ i h. c.loop-k.invariant.1 i (omega arith)
+returns c = let x = c.writer_at-x.ensures in
+    let none = wrote_none_says c.args.words.now c.args.o.num c.args.j c.writer_at-x.result.num in
+    record {
+      says = λ t k h e. none.0 (subst T c.wrote_none.ensures t) k h (e ∙ sym x);
+      shows = λ f. subst T (sym c.wrote_none.ensures) (none.1 (λ k h e. f k h (e ∙ x)));
+    }

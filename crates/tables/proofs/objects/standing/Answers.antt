@@ -4,5 +4,5 @@ use Rattle.std.proofs.Common.{sym, arith}
 use Rattle.tables.specs.Standing.{logged_no_seat}
 use Rattle.tables.proofs.objects.standing.Goals as goal
 
-pub returns-then-number-gt0 : goal.returns-then-number-gt0
-returns-then-number-gt0 c = record { number = c.number-number.ensures; seat = sym (logged_no_seat _ _ _ _ c.requires (omega arith)) }
+pub returns-in-Some : goal.returns-in-Some
+returns-in-Some c = record { number_is = c.in-Some.ensures; seat_is = sym (logged_no_seat _ _ c.requires.unlogged (omega (arith, c.in-Some.found.exists, c.in-Some.ensures))) }

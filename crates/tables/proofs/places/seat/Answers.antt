@@ -1,18 +1,19 @@
-use Rattle.std.proofs.Common.{sym, arith, below_more}
-use Rattle.tables.specs.Seats.{seat_nobody, seat_found, seat_none}
+-- `tables::places::seat` meets its contract: nobody has no place, and of somebody the scan finds the lowest. Assumes nothing.
+use Rattle.std.proofs.Common.{◌≡◌, ℕ, Option, Some, None, rules, sym, ◌∙◌}
+use Rattle.calls.specs.declared.existing.Place.{Place}
+use Rattle.lookups.specs.Places.{seat_number}
+use Rattle.lookups.specs.Scans.{first_at}
+use Rattle.tables.specs.Test.{IsSeat}
+use Rattle.tables.specs.Seats.{seat_nobody, seat_somebody}
 use Rattle.tables.proofs.places.seat.Goals as goal
 
-pub returns-then-x-eq0 : goal.returns-then-x-eq0
-returns-then-x-eq0 c = sym (seat_nobody _ _ c.if-x-eq0.true)
+numbered : (r : Option Place) (n : ℕ) → seat_number r ≡ n → IsSeat r n
+numbered None n e = sym e
+numbered (Some p) n e = e
 
-pub loop-p-init : goal.loop-p-init
-loop-p-init c = (omega arith, λ q h. absurd (omega arith))
-
-pub returns-then-words-p : goal.returns-then-words-p
-returns-then-words-p c = seat_found _ _ c.if-x-eq0.false _ c.loop-p.invariant.1 c.loop-p-test.true c.if-words-p.true
-
-pub loop-p-preserved : goal.loop-p-preserved
-loop-p-preserved c = (omega arith, below_more _ _ c.loop-p.invariant.1 c.if-words-p.false)
+pub returns-then-eq : goal.returns-then-eq
+returns-then-eq c = seat_nobody _ _ (search rules)
 
 pub returns : goal.returns
-returns c = seat_none _ _ c.if-x-eq0.false _ c.loop-p.invariant.1 (omega arith)
+unfolding first_at
+returns c = numbered c.seat.result _ (c.seat.ensures ∙ sym (seat_somebody _ _ (search rules)))

@@ -6,20 +6,18 @@ use Rattle.tables.proofs.places.used_places.Goals.{then-words-q-ne0, else-words-
 
 pub loop-q-init : goal.loop-q-init
 unfolding collect
-loop-q-init c = (omega arith, refl)
+loop-q-init c = refl
 
 pub overflow_add-used : goal.overflow_add-used
-overflow_add-used c = record { fits = used_fits c.args.words.now _ _ c.loop-q-test.true c.loop-q.invariant.1 }
+overflow_add-used c = record { fits = used_fits c.args.words.now _ _ c.loop-q-test.true c.loop-q.invariant }
 
 pub loop-q-preserved : goal.loop-q-preserved
 loop-q-preserved c = let ws = c.args.words.now in
-    let below = c.loop-q-test.true in (
-      omega arith,
-      elim c.if-words-q-ne0.branch [
-        | then-words-q-ne0 w ↦ w.used-is ∙ used_added ws _ _ below c.loop-q.invariant.1 w.if-words-q-ne0.true
-        | else-words-q-ne0 w ↦ w.used-is ∙ used_left ws _ _ below c.loop-q.invariant.1 w.if-words-q-ne0.false
-      ],
-    )
+    let below = c.loop-q-test.true in
+    elim c.if-words-q-ne0.branch [
+      | then-words-q-ne0 w ↦ w.used-is ∙ used_added ws _ _ below c.loop-q.invariant w.if-words-q-ne0.true
+      | else-words-q-ne0 w ↦ w.used-is ∙ used_left ws _ _ below c.loop-q.invariant w.if-words-q-ne0.false
+    ]
 
 pub returns : goal.returns
-returns c = c.loop-q.invariant.1 ∙ used_all c.args.words.now _ (omega arith)
+returns c = c.loop-q.invariant ∙ used_all c.args.words.now _ (omega arith)
