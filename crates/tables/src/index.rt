@@ -2,7 +2,7 @@
 ghost use Rattle.std.specs.Prelude.{◌≡◌, ◌+◌, ◌<◌, length};
 ghost use Rattle.rules.specs.Tables.{log_room};
 ghost use Rattle.rules.specs.Layout.{word_count};
-ghost use Rattle.tables.specs.Index.{bucket_of, number_among, IndexOf};
+ghost use Rattle.tables.specs.Index.{key, bucket_of, number_among, IndexOf};
 ghost use Rattle.tables.specs.Test.{number_in, IsRecord};
 
 use crate::stands::Record;
@@ -43,15 +43,12 @@ impl<'a> Index<'a> {
         }
     }
 
-    // Puts the next record into the index.
-    pub fn insert(&mut self)
-        requires { self.old.count < log_room }
+    // Puts the next record into the index, by its transaction.
+    pub fn insert(&mut self, x: Txn)
+        requires { (self.old.count < log_room) × (x.num ≡ key self.old.words.now self.old.count) }
         ensures { Indexed self.old.words.now (self.old.count + 1) self.new }
     {
         let i = self.count;
-        let x = Txn {
-            num: self.words[layout::LOG + i],
-        };
         let b = bucket(x);
         self.before[i] = self.head[b];
         self.head[b] = (i + 1) as u16;

@@ -21,7 +21,7 @@ fn record_sound(words: &[u64], index: &mut Index) -> bool
     };
     let sound = x != NOBODY && x.num < words[layout::NEXT] && index.find(x).is_none();
     if sound {
-        index.insert();
+        index.insert(x);
     }
     sound
 }
