@@ -26,12 +26,16 @@ pub fn start(words: &mut [u64])
     words[layout::NEXT] = x.num + 1;
 }
 
-// The dependencies d, and the place of the transaction y if y is live.
+// The dependencies d, and the place of the transaction y if y is live. Free places have the number 0, which names nobody.
 fn and_depends_on(t: &Tables, d: u64, y: Txn) -> u64
     requires { d < 2 ^ width }
     ensures { result ≡ depends_too t.now.words.now d (txn_of y) }
 {
-    match lookups::live_place(t, y) {
+    let nobody = y == calls::NOBODY;
+    if nobody {
+        return d;
+    }
+    match lookups::place_of(t, y) {
         Some(p) => sets::with(d, p.num),
         None => d,
     }
