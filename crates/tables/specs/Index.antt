@@ -35,34 +35,40 @@ in_bucket ws b i = eqb (bucket_of (key ws i)) b
 abbrev pub number_among : List ℕ → ℕ → ℕ → ℕ
 number_among ws n x = highest n (names ws x)
 
--- of the right count of words: the index of the first n records
-pub record IndexOf (ws : List ℕ) (n : ℕ) (head before : List ℕ) : Type 0 where
-  pub right_length : length ws ≡ word_count
-  pub count_fits : n ≤ log_room
+-- the index of the first n records
+pub record Index (ws : List ℕ) (n : ℕ) (head before : List ℕ) : Type 0 where
   pub head_size : length head ≡ buckets
   pub before_size : length before ≡ log_room
   pub heads : (b : ℕ) → b < buckets → get_or head b 0 ≡ highest n (in_bucket ws b)
   pub befores : (i : ℕ) → i < n → get_or before i 0 ≡ highest i (in_bucket ws (bucket_of (key ws i)))
 
+-- and the words are of the right count, and the records have room in them
+pub record IndexOf (ws : List ℕ) (n : ℕ) (head before : List ℕ) : Type 0 where
+  pub right_length : length ws ≡ word_count
+  pub count_fits : n ≤ log_room
+  pub index : Index ws n head before
+
 -- a bucket's last record is one of those indexed
-pub head_low : (ws : List ℕ) (n : ℕ) (head before : List ℕ) → IndexOf ws n head before → (b : ℕ) → b < buckets → get_or head b 0 ≤ n
+pub head_low : (ws : List ℕ) (n : ℕ) (head before : List ℕ) → Index ws n head before → (b : ℕ) → b < buckets → get_or head b 0 ≤ n
 head_low ws n head before index b h = omega (arith, index.heads b h, highest_le (in_bucket ws b) n)
 
 -- an index of no records
-pub no_records : (ws : List ℕ) → length ws ≡ word_count → IndexOf ws 0 (replicate buckets 0) (replicate log_room 0)
+pub no_records : (ws : List ℕ) → Index ws 0 (replicate buckets 0) (replicate log_room 0)
 unfolding highest
-no_records ws right =
+no_records ws =
     record {
-      right_length = right;
-      count_fits = omega arith;
       head_size = length-replicate {A = ℕ} buckets 0;
       before_size = length-replicate {A = ℕ} log_room 0;
       heads = λ b h. get_or-replicate {A = ℕ} buckets b 0 0 h;
       befores = λ i h. absurd (not-suc-le-zero h);
     }
 
+-- and of words of the right count
+pub of_no_records : (ws : List ℕ) → length ws ≡ word_count → IndexOf ws 0 (replicate buckets 0) (replicate log_room 0)
+of_no_records ws right = record { right_length = right; count_fits = omega arith; index = no_records ws }
+
 -- one record more
-module _ (ws : List ℕ) (n : ℕ) (head before : List ℕ) (index : IndexOf ws n head before) (b : ℕ) (here : b ≡ bucket_of (key ws n)) where
+module _ (ws : List ℕ) (n : ℕ) (head before : List ℕ) (index : Index ws n head before) (b : ℕ) (here : b ≡ bucket_of (key ws n)) where
   new_heads : (c : ℕ) → c < buckets → get_or (set head b (suc n)) c 0 ≡ highest (suc n) (in_bucket ws c)
   new_heads c h =
       ⊎_elim
@@ -91,17 +97,25 @@ module _ (ws : List ℕ) (n : ℕ) (head before : List ℕ) (index : IndexOf ws 
       ∙ ap (λ (k : ℕ). highest k (in_bucket ws (bucket_of (key ws k)))) (sym e))
       (below_suc i n h)
 
-  pub one_more : n < log_room → IndexOf ws (n + 1) (set head b (n + 1)) (set before n (get_or head b 0))
+  pub one_more : n < log_room → Index ws (n + 1) (set head b (n + 1)) (set before n (get_or head b 0))
   one_more room =
       rw (add-one n)
       (record {
-        right_length = index.right_length;
-        count_fits = room;
         head_size = length-set head b (suc n) ∙ index.head_size;
         before_size = length-set before n (get_or head b 0) ∙ index.before_size;
         heads = new_heads;
         befores = new_befores room;
       })
+
+-- and of words of the right count
+pub of_one_more : (ws : List ℕ) (n : ℕ) (head before : List ℕ) → IndexOf ws n head before → (b : ℕ) → b ≡ bucket_of (key ws n)
+    → n < log_room → IndexOf ws (n + 1) (set head b (n + 1)) (set before n (get_or head b 0))
+of_one_more ws n head before of b here room =
+    record {
+      right_length = of.right_length;
+      count_fits = omega arith;
+      index = one_more ws n head before of.index b here room;
+    }
 
 -- ---- walking a bucket
 
@@ -132,7 +146,7 @@ module _ (ws : List ℕ) (n x : ℕ) where
             (equal_says (bucket_of (key ws i)) b).0 (highest_passes (in_bucket ws b) m i (sym p ∙ q)) ∙ e;
       }
 
-  module _ (head before : List ℕ) (index : IndexOf ws n head before) where
+  module _ (head before : List ℕ) (index : Index ws n head before) where
     pub walk_starts : (b place : ℕ) → b ≡ bucket_of x → place ≡ get_or head b 0 → Walk ws n x place
     walk_starts b place e p = walk_down n b place (le_refl n) e refl (p ∙ index.heads b (omega arith))
 
@@ -161,15 +175,15 @@ module _ (ws : List ℕ) (n x place : ℕ) (up : 0 < place) (w : Walk ws n x pla
   found e =
       sym place_suc ∙ walk_finds ws n x (place - 1) (subst (Walk ws n x) (sym place_suc) w) (sym place_word ∙ e)
 
-  pub not_found : (head before : List ℕ) → IndexOf ws n head before → (word ws (place + 1) ≡ x → ⊥)
+  pub not_found : (head before : List ℕ) → Index ws n head before → (word ws (place + 1) ≡ x → ⊥)
       → Walk ws n x (get_or before (place - 1) 0)
   not_found head before index d =
       walk_goes_on ws n x head before index (place - 1) (subst (Walk ws n x) (sym place_suc) w) (λ e. d (place_word ∙ e))
 
-  pub falls_by_one : (head before : List ℕ) → IndexOf ws n head before → get_or before (place - 1) 0 < place
+  pub falls_by_one : (head before : List ℕ) → Index ws n head before → get_or before (place - 1) 0 < place
   falls_by_one head before index =
       let e = index.befores (place - 1) (omega (arith, w.low)) in
       omega (arith, highest_le (in_bucket ws (bucket_of (key ws (place - 1)))) (place - 1))
 
-  pub falls_far : (head before : List ℕ) → IndexOf ws n head before → get_or before (place - 1) 0 < 1024
-  falls_far head before index = omega (arith, falls_by_one head before index, w.low, index.count_fits)
+  pub falls_far : (head before : List ℕ) → Index ws n head before → n ≤ log_room → get_or before (place - 1) 0 < 1024
+  falls_far head before index room = omega (arith, falls_by_one head before index, w.low)
