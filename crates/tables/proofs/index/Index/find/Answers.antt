@@ -1,6 +1,11 @@
-use Rattle.std.proofs.Common.{rules}
+use Rattle.std.proofs.Common.{ℕ, ◌<◌, w64, Fits, rules}
+use borrow.Author.Rules.{Fits-under}
 use Rattle.tables.specs.Index.{walk_starts, walk_ends, found, not_found, falls_by_one}
 use Rattle.tables.proofs.index.Index.find.Goals as goal
+
+-- a link is below 1024, so it has room in a word
+link_fits : (link : ℕ) → link < 1024 → Fits w64 link
+link_fits link low = Fits-under w64 link 1024 low tt
 
 pub loop-at-init : goal.loop-at-init
 loop-at-init c = search (walk_starts, rules)
