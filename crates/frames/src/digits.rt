@@ -10,9 +10,9 @@ pub(crate) static CHARACTERS: [u8; 16] = *b"0123456789abcdef";
 pub(crate) const NO_DIGIT: u64 = 0x1_0000_0000;
 
 // The number that each character stands for as a digit, or NO_DIGIT. Whoever reads many lines makes them once.
-#[derive(Drop)]
+#[derive(Clone, Copy)]
 pub struct Digits {
-    values: [u64; 256],
+    pub values: [u64; 256],
     ghost each: { values ≡ digit_values },
 }
 
