@@ -5,3 +5,4 @@ pub mod Accessing
 pub mod Preparing
 pub mod Ending
 pub mod Entries
+pub mod Whys
