@@ -1,9 +1,9 @@
 -- A set that grows by one place a turn, from below, is what the rules collect.
 -- Rests on the rules' Sets, Tables, Steps and Layout, on basics, words_laws and the sets' Members. Assumes nothing.
-use mathlib.Core.Path.{◌≡◌, ap, ap₂, sym, ◌∙◌}
+use mathlib.Core.Path.{◌≡◌, ap, ap₂, sym, ◌∙◌, subst}
 use mathlib.Core.Bool.{Bool, true, false, cond}
 use mathlib.Core.List.{List}
-use Prim.Native.Nat.{ℕ, ◌+◌, ◌*◌, ◌%◌, ◌^◌, ◌<◌}
+use Prim.Native.Nat.{ℕ, ◌+◌, ◌*◌, ◌%◌, ◌^◌, ◌≤◌, ◌<◌}
 use native.Mathlib.Numerals.{add-one}
 use native.Mathlib.Omega.{arith}
 use lib.Dec.{eqb}
@@ -13,6 +13,7 @@ use Rattle.rules.specs.Sets.{width, collect}
 use Rattle.rules.specs.Tables.{place_count, place, is_free}
 use Rattle.rules.specs.Layout.{number_at, word, unpack}
 use Rattle.rules.specs.Steps.{free_places}
+use Rattle.basics.specs.Sets.{collect_lt}
 use Rattle.words_laws.specs.Unpacked.{place_read}
 use Rattle.sets.proofs.Members.{collect_same}
 
@@ -30,6 +31,14 @@ pub grows : (f : ℕ → Bool) (p s r : ℕ) (passes : Bool) → s ≡ collect p
     → r ≡ collect (p + 1) f
 unfolding collect
 grows f p s r passes e g t = rw (add-one p) (g ∙ ap₂ (λ (n : ℕ) (b : Bool). n + cond b (2 ^ p) 0) e t)
+
+-- all its members are below p
+pub grows_below : (f : ℕ → Bool) (p s : ℕ) → s ≡ collect p f → s < 2 ^ p
+grows_below f p s e = subst (λ (n : ℕ). n < 2 ^ p) (sym e) (collect_lt p f)
+
+-- at the end it is that of all places that pass
+pub grown : (f : ℕ → Bool) (p s : ℕ) → s ≡ collect p f → (w : ℕ) → p ≤ w → w ≤ p → s ≡ collect w f
+grown f p s e w h k = e ∙ ap (λ (n : ℕ). collect n f) (omega arith)
 
 -- a place is free where its word is 0
 abbrev pub free_word : List ℕ → ℕ → Bool
