@@ -1,4 +1,4 @@
-use Rattle.std.proofs.Common.{◌≡◌, subst, ap, sym, ◌∙◌, Bool, ℕ, arith, below_more, T}
+use Rattle.std.proofs.Common.{rules, ◌≡◌, subst, sym, ◌∙◌, Bool, ℕ, arith, below_more, T}
 use Rattle.rules.specs.Tables.{chain_room}
 use Rattle.rules.specs.Layout.{word}
 use Rattle.basics.specs.Logic.{from_true}
@@ -14,9 +14,7 @@ test c k = falls_in c.args.words.now c.args.f (word c.args.words.now (writer_pla
 -- the answer of a turn
 answer : (c : After-falls)
     → c.falls.result ≡ test (goal.at.After-falls c).Start c.loop-j.j
-answer c =
-    let a = c.args in
-    c.falls.ensures ∙ ap (falls_in a.words.now a.f) c.writer_at-writer.ensures
+answer c = search rules
 
 pub returns-then-falls : goal.returns-then-falls
 unfolding first_fall
