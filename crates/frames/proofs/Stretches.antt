@@ -8,7 +8,7 @@ use Prim.Native.Nat.{ℕ, ◌+◌, ◌*◌, ◌^◌, ◌≤◌, ◌<◌}
 use native.Mathlib.Nat.{pow-suc, pow-le-pow_right}
 use native.Mathlib.Numerals.{add-one}
 use native.Mathlib.Omega.{arith}
-use lib.Dec.{T, eqb, eqb→eq}
+use lib.Dec.{T, eqb, ltb, eqb→eq, ltb→lt}
 use lib.ListN.{length, get_or, drop, drop_of_length-le}
 use lib.Seq.{drop-cons}
 use Rattle.rules.specs.Tests.{every}
@@ -25,6 +25,11 @@ use Rattle.frames.specs.Parts.{no_digit, value_of, digit_values, sum_after}
 pub character_at : (n : ℕ) → n < 16 → get_or CHARACTERS n 0 ≡ digit n
 unfolding every
 character_at n h = eqb→eq (get_or CHARACTERS n 0) (digit n) (every_at 16 (λ n. eqb (get_or CHARACTERS n 0) (digit n)) tt n h)
+
+-- which is a byte
+pub character_byte : (n : ℕ) → n < 16 → get_or CHARACTERS n 0 < 256
+unfolding every
+character_byte n h = rw (character_at n h) (ltb→lt (digit n) 256 (every_at 16 (λ n. ltb (digit n) 256) tt n h))
 
 -- the entry of each byte
 pub value_at : {vs : List ℕ} → vs ≡ digit_values → (b : ℕ) → b < 256 → get_or vs b 0 ≡ value_of b

@@ -16,7 +16,7 @@ use Rattle.rules.specs.Layout.{pack, unpack, sound_words}
 use Rattle.rules.specs.Session.{lines, line, answer_lines, answer_length, tables_after_lines, answered}
 use Rattle.frames_laws.specs.Lines as laws
 use Rattle.frames_laws.specs.Lines.{flat}
-use Rattle.words_laws.specs.Words.{words_again, tables_again, packed_sound, unpacked_sound}
+use Rattle.words_laws.specs.Words.{pack_length, words_again, tables_again, packed_sound, unpacked_sound}
 use Rattle.runs.specs.Kept.{lines_sound}
 use Rattle.runs.specs.Ran.{RanLines}
 use Rattle.runs.specs.Stepped.{Stepped}
@@ -80,6 +80,9 @@ module _ (ws text room : List ℕ) (s : T (sound_words ws)) where
 
     pub stays_sound : T (sound_words vs)
     stays_sound = rw r.left (packed_sound (tables_after_lines (unpack ws) r.done) now_sound)
+
+    pub words_length : length vs ≡ length ws
+    words_length = ap length r.left ∙ pack_length _ ∙ sym (pack_length (unpack ws)) ∙ ap length (words_again ws s)
 
     written_length : length (answer_lines (unpack ws) r.done) ≡ answer_length * n
     written_length = answers_length (unpack ws) r.done ∙ rw r.count
