@@ -4,7 +4,7 @@
 use Rattle.std.specs.Prelude.{◌≡◌, Bool, true, false, List, ◌++◌, ℕ, ◌+◌, ◌≤◌, ◌<◌, ◌^◌, ◌-◌, length, Option, None, Some, ⊤}
 use Rattle.std.specs.Io.KnownBytes.{Appends}
 use Rattle.rules.specs.Layout.{pack, unpack}
-use Rattle.rules.specs.Session.{lines, answer_lines, tables_after_lines}
+use Rattle.rules.specs.Session.{lines, answer_lines, tables_after_lines, session}
 
 -- the words are those that the lines leave, and their answer lines were written, one after the other and nothing else
 pub record Answered (ws text : List ℕ) (before : Option (List ℕ)) (vs : List ℕ) (after : Option (List ℕ)) : Type 0 where
@@ -30,6 +30,11 @@ OnwardIfKnown n ws p (Some xs) before vs q (Some ys) after = Onward n ws p xs be
 abbrev pub AllAnswered : List ℕ → List ℕ → Option (List ℕ) → Option (List ℕ) → List ℕ → Option (List ℕ) → Type 0
 AllAnswered ws p None before vs after = ⊤
 AllAnswered ws p (Some xs) before vs after = length xs < 2 ^ 64 - 1 → Answered ws (p ++ xs) before vs after
+
+-- the session of the input's bytes was written, and nothing else, where these are known and as many as a run can take
+abbrev pub WritesSession : Option (List ℕ) → Option (List ℕ) → Option (List ℕ) → Type 0
+WritesSession None before after = ⊤
+WritesSession (Some xs) before after = length xs < 2 ^ 64 - 1 → Appends before after (session xs)
 
 -- a turn, by whether the input may go on
 abbrev pub Turned : Bool → List ℕ → List ℕ → Option (List ℕ) → Option (List ℕ) → List ℕ → List ℕ → Option (List ℕ) → Option (List ℕ) → Type 0

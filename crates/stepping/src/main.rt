@@ -5,7 +5,7 @@
 
 ghost use Rattle.std.specs.Prelude.{◌≤◌, T, length, take, OnOk, IfOk};
 ghost use Rattle.rules.specs.Layout.{sound_words};
-ghost use Rattle.stepping.specs.Answered.{Answered, Turned, AllAnswered};
+ghost use Rattle.stepping.specs.Answered.{Answered, Turned, AllAnswered, WritesSession};
 ghost use Rattle.stepping.specs.Kept.{most_kept, Whole, Moved};
 
 use std::io;
@@ -118,7 +118,10 @@ fn serve<R: Read, W: Write>(
     Ok(())
 }
 
-fn main(rt: HostRuntime) -> io::Result<()> {
+// Writes the session of its input: from fresh tables, with nothing kept.
+fn session<R: Read, W: Write>(input: &mut R, output: &mut W) -> io::Result<()>
+    ensures { OnOk result (WritesSession (R.remaining input.old) (W.contents output.old) (W.contents output.new)) }
+{
     let mut words = [0u64; 1410];
     ends::fresh(&mut words);
     let mut answerer = Answerer {
@@ -129,10 +132,9 @@ fn main(rt: HostRuntime) -> io::Result<()> {
         buffer: [0; BUFFER_LENGTH],
         kept: 0,
     };
-    serve(
-        &mut rt.stdin(),
-        &mut rt.stdout(),
-        &mut answerer,
-        &mut unfinished,
-    )
+    serve(input, output, &mut answerer, &mut unfinished)
+}
+
+fn main(rt: HostRuntime) -> io::Result<()> {
+    session(&mut rt.stdin(), &mut rt.stdout())
 }
