@@ -13,10 +13,10 @@ use calls::{Lsn, Txn};
 // the tables clears.
 #[derive(Drop)]
 pub struct Index<'a> {
-    pub words: &'a [u64],
     pub count: usize,
     head: [u16; 1024],
     before: [u16; 512],
+    pub words: &'a [u64],
     ghost indexed: { IndexOf words.now count head before },
 }
 
